@@ -1,0 +1,9 @@
+// The cell lock: a backplane on which the board inside has the cell.
+ghost use Rattle.cell.specs.Rule.{Held};
+use crate::plane::Backplane;
+
+#[derive(Clone, Copy)]
+pub struct CellLock {
+    pub(crate) plane: Backplane,
+    ghost held: { Held plane },
+}

@@ -1,0 +1,4 @@
+pub mod Stations
+pub mod Runs
+pub mod Local
+pub mod Tables

@@ -1,0 +1,5 @@
+pub mod Most
+pub mod Numbers
+pub mod Stations
+pub mod Runs
+pub mod Tables
