@@ -16,9 +16,9 @@ use Rattle.lock.specs.declared.station.Call.the-variants.{Start, Step, Leave, 
 use Rattle.lock.specs.declared.station.Refusal.{Refusal}
 use Rattle.lock.specs.declared.station.Station.{Station}
 use Rattle.lock.specs.declared.station.Station.the-variants.{Out, Trying, Inside, Leaving}
-use Rattle.lock.specs.Stations.{at, with, answer, accepted, Stands, AtMostOne, StepsTo, Moves}
+use Rattle.lock.specs.Stations.{board, at, with, answer, accepted, Stands, AtMostOne, StepsTo, Moves}
 use Rattle.lock.specs.Runs.{own, steps, Spares, OthersOut, run, Sometime, Each, AllOut, MovesAt, CallsMove, Exclusive, EntersWithin, OutWithin}
-use Rattle.lock.proofs.Stations.{board, out≢trying, out≢inside, out≢leaving, trying≢inside, trying≢leaving, inside≢leaving, start-accepted, leave-accepted, pull-accepted, step-accepted, accepted-step, board-there, stands-with, other-with, stands-other, still-out, all-out-at, moved-to, one-inside, own-same, own-other, no-own}
+use Rattle.lock.proofs.Stations.{out≢trying, out≢inside, out≢leaving, trying≢inside, trying≢leaving, inside≢leaving, start-accepted, leave-accepted, pull-accepted, step-accepted, accepted-step, board-there, stands-with, other-with, stands-other, still-out, all-out-at, moved-to, one-inside, own-same, own-other, no-own}
 use Rattle.lock.proofs.Runs.{always, each-any, arrives}
 
 module _ {L : Type 0} (fresh : Boards → L) (after : L → Call → L) (stations : L → List Station) where

@@ -18,7 +18,7 @@ use Rattle.lock.specs.declared.station.Refusal.{Refusal}
 use Rattle.lock.specs.declared.station.Refusal.the-variants.{NoSuchBoard}
 use Rattle.lock.specs.declared.station.Station.{Station}
 use Rattle.lock.specs.declared.station.Station.the-variants.{Out, Trying, Inside, Leaving}
-use Rattle.lock.specs.Stations.{among, at, with, told, start-at, leave-at, pull-at, answer, accepted, Stands, NoneElse, AtMostOne, StepsTo, Moves}
+use Rattle.lock.specs.Stations.{board, among, at, with, told, start-at, leave-at, pull-at, answer, accepted, Stands, NoneElse, AtMostOne, StepsTo, Moves}
 use Rattle.lock.specs.Runs.{own, OthersOut}
 
 pub out≢trying : Out ≡ Trying → ⊥
@@ -50,13 +50,6 @@ from-among n b k = let both = and-parts (leb 1 b) (leb b n) k in (leb-true 1 b (
 
 pub not-among : (n b : ℕ) → (b < 1) ⊎ (n < b) → among n b ≡ false
 not-among n b w = elim w [ inl h ↦ and-left (leb 1 b) (leb b n) (lt-leb 1 b h) | inr h ↦ and-right (leb 1 b) (leb b n) (lt-leb b n h) ]
-
--- the board that a call names
-abbrev pub board : Call → ℕ
-board (Start b) = b
-board (Step b bit) = b
-board (Leave b) = b
-board (Pull b) = b
 
 -- an answer that is Ok passed the first test, and the second
 passed : (k : Bool) (r : Result Unit Refusal) → isOk (cond k r (Err NoSuchBoard)) ≡ true → (k ≡ true) × (isOk r ≡ true)

@@ -1,14 +1,21 @@
 -- What the records of boards 1 to N have to do with the whole table.
-use mathlib.Core.Path.{_≡_, ap, _∙_}
-use mathlib.Core.Bool.{true}
+use mathlib.Core.Path.{_≡_, refl, ap, _∙_}
+use mathlib.Core.Bool.{Bool, true, false, cond}
+use mathlib.Core.List.{map}
 use Prim.Native.Nat.{ℕ, _-_, _≤_, _<_}
 use native.Mathlib.Omega.{arith}
 use lib.ListN.{length, getD, set, take}
 use lib.Seq.{take-set-lt}
-use Rattle.std.specs.declared.result.Result.the-variants.{Ok}
-use Rattle.std.proofs.shelf.Lists.{length-take, length-take-le, getD-take, getD-default}
+use Rattle.std.specs.declared.result.Result.{Result}
+use Rattle.std.specs.declared.result.Result.the-variants.{Ok, Err}
+use Rattle.std.proofs.shelf.Lists.{length-take, length-take-le, length-map, getD-take, getD-map, getD-default}
+use Rattle.lock.specs.declared.station.Refusal.{Refusal}
+use Rattle.lock.specs.declared.station.Refusal.the-variants.{NoSuchBoard}
+use Rattle.lock.specs.declared.station.Station.{Station}
+use Rattle.lock.specs.declared.station.Station.the-variants.{Out}
 use Rattle.lock.specs.declared.table.Table.{Table}
 use Rattle.lock.specs.Most.{most}
+use Rattle.lock.specs.Stations.{among, at, told}
 use Rattle.lock.specs.Tables.{listed, kept-for, asked, written}
 use Rattle.lock.proofs.Stations.{among-from, from-among}
 
@@ -37,3 +44,19 @@ module _ {T : Type 0} where
       let low = r .0 in let high = r .1 in
       let h : b - 1 < length (listed t) = omega arith in
       rw k (ap Ok (getD-default (listed t) (b - 1) d x h ∙ listed-at t b x low high))
+
+  -- what is told of a station that the record says
+  abbrev pub through : (T → Station) → Result T Refusal → Result Station Refusal
+  through f (Ok x) = Ok (f x)
+  through f (Err e) = Err e
+
+  pub told-through : (f : T → Station) (t : Table T) (b : ℕ) (d : T) → told (map f (listed t)) b ≡ through f (asked t b d)
+  told-through f t b d = ap (λ n. cond (among n b) (Ok (at (map f (listed t)) b)) (Err NoSuchBoard)) (length-map (listed t) f) ∙ go (kept-for t b) refl
+    where
+      go : (k : Bool) → kept-for t b ≡ k → cond k (Ok (at (map f (listed t)) b)) (Err NoSuchBoard) ≡ through f (cond k (Ok (getD (listed t) (b - 1) d)) (Err NoSuchBoard))
+      go true e =
+          let r = from-among (length (listed t)) b e in
+          let low = r .0 in let high = r .1 in
+          let h : b - 1 < length (listed t) = omega arith in
+          ap Ok (getD-map f (listed t) (b - 1) d Out h)
+      go false e = refl

@@ -16,6 +16,13 @@ use Rattle.lock.specs.declared.station.Refusal.the-variants.{NoSuchBoard, NotO
 use Rattle.lock.specs.declared.station.Station.{Station}
 use Rattle.lock.specs.declared.station.Station.the-variants.{Out, Trying, Inside, Leaving}
 
+-- the board that a call names
+abbrev pub board : Call → ℕ
+board (Start b) = b
+board (Step b bit) = b
+board (Leave b) = b
+board (Pull b) = b
+
 -- b is one of the boards 1 to n
 abbrev pub among : ℕ → ℕ → Bool
 among n b = leb 1 b && leb b n

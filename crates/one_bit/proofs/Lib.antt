@@ -1,0 +1,4 @@
+pub mod Seats
+pub mod Steps
+pub mod Keeps
+pub mod Same
