@@ -82,6 +82,7 @@ impl Backplane {
     {
         match self.station(board)? {
             Station::Inside => {
+                // the cell stays with the board until its own step
                 self.go(board, Station::Leaving);
                 Ok(())
             }

@@ -1,7 +1,11 @@
 // The rule of the one-bit lock, call by call, on flags and places.
 ghost use mathlib.Core.Path.{_≡_};
+ghost use Rattle.line.specs.Rule.{begun};
+ghost use Rattle.line.specs.declared.Level.the-variants as to;
+ghost use Rattle.line.specs.declared.Line.the-variants.{Low};
 ghost use Rattle.lock.specs.Stations.{answer, told};
 ghost use Rattle.lock.specs.declared.station.Call.the-variants.{Start, Step, Leave, Pull};
+ghost use Rattle.one_bit.specs.declared.lines.Place.the-variants.{Leaving, Out};
 ghost use Rattle.one_bit.specs.Rule.{after, changed, flag-told, fresh, lowered, onward, put, read-on, seen, shown, station, stepped, wait-on};
 ghost use Rattle.one_bit.specs.Rule.{board as made, seat as seat-at};
 use crate::lines::Board;
@@ -67,6 +71,16 @@ impl Place {
 }
 
 impl Board {
+    // A board that is out.
+    fn out() -> Board
+        ensures { λ r. ⌜ r ≡ made Low Out ⌝ }
+    {
+        Board {
+            flag: Line::Low,
+            place: Place::Out,
+        }
+    }
+
     // The board at another place, with its flag as it is.
     fn at(self, place: Place) -> Board
         ensures { λ r. ⌜ r ≡ made (self .flag) place ⌝ }
@@ -92,15 +106,22 @@ impl Board {
         }
     }
 
-    // Lowers the flag, in one step or two, and is out.
+    // Puts the flag in change to low, unless it rests there.
+    fn lower(self) -> Board
+        ensures { λ r. ⌜ r ≡ made (begun (self .flag) to.Low) Leaving ⌝ }
+    {
+        Board {
+            flag: self.flag.begin(Level::Low),
+            place: Place::Leaving,
+        }
+    }
+
+    // Begins to lower a high flag; makes any other low, and is out.
     fn go_out(self) -> Board
         ensures { λ r. ⌜ r ≡ lowered (self .flag) ⌝ }
     {
         match self.flag {
-            Line::High => Board {
-                flag: self.flag.begin(Level::Low),
-                place: Place::Leaving,
-            },
+            Line::High => self.lower(),
             _ => Board {
                 flag: self.flag.end(),
                 place: Place::Out,
@@ -127,12 +148,8 @@ impl Lines {
     pub(crate) fn new(boards: Boards) -> Lines
         ensures { λ r. ⌜ r ≡ fresh boards ⌝ }
     {
-        let out = Board {
-            flag: Line::Low,
-            place: Place::Out,
-        };
         Lines {
-            table: Table::new(boards, out),
+            table: Table::new(boards, Board::out()),
         }
     }
 
@@ -142,10 +159,7 @@ impl Lines {
     {
         match self.table.record(board) {
             Ok(own) => own,
-            Err(_) => Board {
-                flag: Line::Low,
-                place: Place::Out,
-            },
+            Err(_) => Board::out(),
         }
     }
 
@@ -228,11 +242,7 @@ impl Lines {
         match self.station(board)? {
             Station::Trying | Station::Inside => {
                 let own = self.seat(board);
-                let pulled = Board {
-                    flag: own.flag.begin(Level::Low),
-                    place: Place::Leaving,
-                };
-                self.put(board, pulled);
+                self.put(board, own.lower());
                 Ok(())
             }
             _ => Err(Refusal::NotEngaged),

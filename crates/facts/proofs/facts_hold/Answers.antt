@@ -1,0 +1,15 @@
+-- Each fact is found by computing.
+use mathlib.Core.Path.{refl}
+use Rattle.facts.proofs.facts_hold.Needs as need
+
+pub returns : need.returns
+returns c = record {
+  single-waits = λ bit. refl;
+  single-enters = λ bit. refl;
+  first-flag = λ bit. refl;
+  second-flag = λ bit. refl;
+  first-tries = λ bit. refl;
+  second-tries = λ bit. refl;
+  reads-low = λ bit. refl;
+  reads-high = λ bit. refl;
+}

@@ -1,0 +1,131 @@
+// Three boards take turns over the one-bit lock, on a fixed schedule; each call is printed with what it did.
+mod play;
+mod row;
+
+use line::Line;
+use lock::Boards;
+use lock::Call;
+use lock::Refusal;
+use lock::Station;
+use play::play;
+use row::Row;
+use std::error::AnyError;
+
+// Boards 1 and 2 contend, and 2 gives way; 1 reads 2's flag in change at both bits. Board 3 waits for 1, a lower board,
+// and 2 is pulled while it raises its flag. Then some calls are refused, and 2 waits for 3, a higher board.
+const SCHEDULE: [Call; 49] = [
+    Call::Start(1),
+    Call::Start(2),
+    Call::Step(1, false),
+    Call::Step(2, false),
+    Call::Step(1, false),
+    Call::Step(2, false),
+    Call::Step(2, false),
+    Call::Step(1, true),
+    Call::Step(2, false),
+    Call::Step(1, true),
+    Call::Step(1, false),
+    Call::Step(1, false),
+    Call::Start(3),
+    Call::Step(3, false),
+    Call::Step(3, false),
+    Call::Step(3, true),
+    Call::Step(2, true),
+    Call::Step(3, true),
+    Call::Step(3, false),
+    Call::Step(3, false),
+    Call::Leave(1),
+    Call::Step(1, false),
+    Call::Step(3, true),
+    Call::Step(3, false),
+    Call::Step(1, false),
+    Call::Step(2, false),
+    Call::Step(2, false),
+    Call::Pull(2),
+    Call::Step(3, false),
+    Call::Step(3, false),
+    Call::Step(3, false),
+    Call::Step(2, false),
+    Call::Step(3, false),
+    Call::Start(2),
+    Call::Start(3),
+    Call::Leave(2),
+    Call::Pull(1),
+    Call::Start(4),
+    Call::Step(2, false),
+    Call::Step(2, false),
+    Call::Step(2, false),
+    Call::Step(2, true),
+    Call::Leave(3),
+    Call::Step(3, false),
+    Call::Step(3, false),
+    Call::Step(2, false),
+    Call::Leave(2),
+    Call::Step(2, false),
+    Call::Step(2, false),
+];
+
+fn line_name(line: Line) -> &'static str {
+    match line {
+        Line::Low => "low",
+        Line::Rising => "rising",
+        Line::High => "high",
+        Line::Falling => "falling",
+    }
+}
+
+fn station_name(station: Result<Station, Refusal>) -> &'static str {
+    match station {
+        Ok(Station::Out) => "out",
+        Ok(Station::Trying) => "trying",
+        Ok(Station::Inside) => "inside",
+        Ok(Station::Leaving) => "leaving",
+        Err(_) => "-",
+    }
+}
+
+// What is called, of which board, and with which bit.
+fn call_parts(call: Call) -> (&'static str, u8, &'static str) {
+    match call {
+        Call::Start(board) => ("start", board, "-"),
+        Call::Step(board, true) => ("step", board, "1"),
+        Call::Step(board, false) => ("step", board, "0"),
+        Call::Leave(board) => ("leave", board, "-"),
+        Call::Pull(board) => ("pull", board, "-"),
+    }
+}
+
+// The number by which a call was refused, 0 where it was accepted.
+fn refused_by(answer: Result<(), Refusal>) -> u8 {
+    match answer {
+        Ok(()) => 0,
+        Err(refusal) => refusal.number(),
+    }
+}
+
+fn print_row(rt: &impl Print, place: usize, row: Row) -> Result<(), AnyError> {
+    let (name, board, bit) = call_parts(row.call);
+    let refused = refused_by(row.answer);
+    let first = line_name(row.flags[0]);
+    let second = line_name(row.flags[1]);
+    let third = line_name(row.flags[2]);
+    let station = station_name(row.station);
+    println!(rt, "{place:>3}  {name:<5}  {board:>5}  {bit:>3}  {refused:>7}  {first:<7}  {second:<7}  {third:<7}  {station}")?;
+    Ok(())
+}
+
+fn take_turns(rt: &LibcRuntime) -> Result<(), AnyError> {
+    let Some(boards) = Boards::new(3) else {
+        return Err("three boards are too many".into());
+    };
+    println!(rt, " no  call   board  bit  refused  flag 1   flag 2   flag 3   station")?;
+    let rows = play(rt.alloc(), boards, &SCHEDULE)?;
+    for (i, row) in rows.iter().enumerate() {
+        print_row(rt, i + 1, *row)?;
+    }
+    Ok(())
+}
+
+fn main(rt: LibcRuntime) -> Result<(), AnyError> {
+    rt.report(take_turns(&rt))
+}
