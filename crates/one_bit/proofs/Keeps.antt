@@ -319,8 +319,8 @@ starts n l b (sound, same) s =
     let e = out-place (seat l b .place) (stands-seat l b at.Out s) in
     let f = out-low b (seat l b .flag) (subst (λ p. fits b (seat l b .flag) p ≡ true) e (sound .0 b (h .0) (h .1))) in
     let x : to-enter (after l (Start b)) b ≡ n .count + 1 =
-        ap (λ m. to-go (m .count) b (seat (after l (Start b)) b .flag) (seat (after l (Start b)) b .place)) (same-boards l (Start b) ∙ same)
-        ∙ ap (λ y. to-go (n .count) b (y .flag) (y .place)) (seat-after l (Start b) acc) ∙ ap (λ y. to-go (n .count) b y Raising) f in
+    ap (λ m. to-go (m .count) b (seat (after l (Start b)) b .flag) (seat (after l (Start b)) b .place)) (same-boards l (Start b) ∙ same)
+    ∙ ap (λ y. to-go (n .count) b (y .flag) (y .place)) (seat-after l (Start b) acc) ∙ ap (λ y. to-go (n .count) b y Raising) f in
     omega arith
   where
     accepts : (t : Station) → t ≡ at.Out → among (length (shown l)) b ≡ true → isOk (cond (among (length (shown l)) b) (start-at t) (Err NoSuchBoard)) ≡ true

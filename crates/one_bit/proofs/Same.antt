@@ -56,7 +56,7 @@ pub same-lock : (l m : OneBit) → l .lines ≡ m .lines → l ≡ m
 same-lock l m e =
     subst (λ x. (r : Raised x) (f : Fits x) (a : Apart x) → l ≡ made x r f a) e
     (λ r f a i. made (l .lines)
-      (λ b s. Bool-set (high (seat (l .lines) b .flag)) true (l .raised b s) (r b s) i)
-      (λ b p q. Bool-set (fits b (seat (l .lines) b .flag) (seat (l .lines) b .place)) true (l .fits b p q) (f b p q) i)
-      (λ j k w. no-two (l .apart j k w) (a j k w) i))
+    (λ b s. Bool-set (high (seat (l .lines) b .flag)) true (l .raised b s) (r b s) i)
+    (λ b p q. Bool-set (fits b (seat (l .lines) b .flag) (seat (l .lines) b .place)) true (l .fits b p q) (f b p q) i)
+    (λ j k w. no-two (l .apart j k w) (a j k w) i))
     (m .raised) (m .fits) (m .apart)

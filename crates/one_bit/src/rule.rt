@@ -35,7 +35,11 @@ impl Place {
     fn onward(count: u8, own: u8, read: u8) -> Place
         ensures { λ r. ⌜ r ≡ onward count own read ⌝ }
     {
-        let past = if read < count && read + 1 == own { own } else { read };
+        let past = if read < count && read + 1 == own {
+            own
+        } else {
+            read
+        };
         if past < count {
             Place::Reading(past + 1)
         } else {
@@ -85,7 +89,10 @@ impl Board {
     fn at(self, place: Place) -> Board
         ensures { λ r. ⌜ r ≡ made (self .flag) place ⌝ }
     {
-        Board { flag: self.flag, place }
+        Board {
+            flag: self.flag,
+            place,
+        }
     }
 
     // One half of a change of the flag to a level: the first, after which the board stays where it is, or the second,

@@ -110,7 +110,10 @@ fn print_row(rt: &impl Print, place: usize, row: Row) -> Result<(), AnyError> {
     let second = line_name(row.flags[1]);
     let third = line_name(row.flags[2]);
     let station = station_name(row.station);
-    println!(rt, "{place:>3}  {name:<5}  {board:>5}  {bit:>3}  {refused:>7}  {first:<7}  {second:<7}  {third:<7}  {station}")?;
+    println!(
+        rt,
+        "{place:>3}  {name:<5}  {board:>5}  {bit:>3}  {refused:>7}  {first:<7}  {second:<7}  {third:<7}  {station}"
+    )?;
     Ok(())
 }
 
@@ -118,7 +121,10 @@ fn take_turns(rt: &LibcRuntime) -> Result<(), AnyError> {
     let Some(boards) = Boards::new(3) else {
         return Err("three boards are too many".into());
     };
-    println!(rt, " no  call   board  bit  refused  flag 1   flag 2   flag 3   station")?;
+    println!(
+        rt,
+        " no  call   board  bit  refused  flag 1   flag 2   flag 3   station"
+    )?;
     let rows = play(rt.alloc(), boards, &SCHEDULE)?;
     for (i, row) in rows.iter().enumerate() {
         print_row(rt, i + 1, *row)?;

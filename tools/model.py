@@ -1,0 +1,165 @@
+#!/usr/bin/env python3
+"""An independent model of the rules of the one-bit and the cell lock.
+
+It shares no text with the code or its definitions. `tools/model.py drill` writes what the program `drill` has to write,
+crates/drill/stdout, and `tools/model.py turns` what the program `turns` has to write, crates/turns/stdout.
+"""
+import re
+import sys
+from pathlib import Path
+
+
+class Lock:
+    """Stations and refusals, alike for every lock."""
+
+    def __init__(self, n):
+        self.n = n
+        self.station = {b: 'out' for b in range(1, n + 1)}
+
+    def call(self, kind, b, bit=0):
+        """Makes a call; returns the number of its refusal, or 0."""
+        if b not in self.station:
+            return 1
+        at = self.station[b]
+        if kind == 'start':
+            if at != 'out':
+                return 2
+            self.station[b] = 'trying'
+            self.started(b)
+        elif kind == 'leave':
+            if at != 'inside':
+                return 5
+            self.station[b] = 'leaving'
+            self.left(b)
+        elif kind == 'pull':
+            if at not in ('trying', 'inside'):
+                return 4
+            self.station[b] = 'leaving'
+            self.pulled(b)
+        elif at in ('trying', 'leaving'):
+            self.step(b, bit)
+        return 0
+
+
+class OneBit(Lock):
+    """Each board's work is a generator that yields wherever a step ends; a step sends it the bit."""
+
+    def __init__(self, n):
+        super().__init__(n)
+        self.flag = {b: 'low' for b in self.station}
+        self.doing = {}
+
+    def step(self, b, bit):
+        self.bit = bit
+        next(self.doing[b], None)
+
+    def read(self, j):
+        return {'low': 0, 'high': 1}.get(self.flag[j], self.bit)
+
+    def change(self, b, to):
+        self.flag[b] = 'rising' if to else 'falling'
+        yield
+        self.flag[b] = 'high' if to else 'low'
+
+    def try_in(self, i):
+        while True:
+            yield from self.change(i, 1)
+            for j in range(1, i):
+                yield
+                if self.read(j):
+                    yield
+                    yield from self.change(i, 0)
+                    yield
+                    while self.read(j):
+                        yield
+                    yield
+                    break
+            else:
+                break
+        for j in range(i + 1, self.n + 1):
+            yield
+            while self.read(j):
+                yield
+        self.station[i] = 'inside'
+
+    def go_out(self, i):
+        yield from self.change(i, 0)
+        self.station[i] = 'out'
+
+    def end_pull(self, i):
+        self.flag[i] = 'low'
+        self.station[i] = 'out'
+        yield
+
+    def started(self, b):
+        self.doing[b] = self.try_in(b)
+
+    def left(self, b):
+        self.doing[b] = self.go_out(b)
+
+    def pulled(self, b):
+        if self.flag[b] != 'low':
+            self.flag[b] = 'falling'
+        self.doing[b] = self.end_pull(b)
+
+
+class Cell(Lock):
+    def __init__(self, n):
+        super().__init__(n)
+        self.cell = None
+
+    def step(self, b, bit):
+        if self.station[b] == 'trying':
+            if self.cell is None:
+                self.cell = b
+                self.station[b] = 'inside'
+        else:
+            if self.cell == b:
+                self.cell = None
+            self.station[b] = 'out'
+
+    def started(self, b):
+        pass
+
+    left = pulled = started
+
+
+def drill():
+    signs = {'low': '_', 'rising': '/', 'high': '^', 'falling': '\\'}
+    letters = {'out': 'o', 'trying': 't', 'inside': 'I', 'leaving': 'l'}
+    for n in range(1, 9):
+        for kind, lock in (('one-bit', OneBit(n)), ('cell', Cell(n))):
+            seed = n
+
+            def roll():
+                nonlocal seed
+                seed = (seed * 1664525 + 1013904223) % 2**32
+                return seed >> 16
+
+            for _ in range(24):
+                refused = 0
+                for _ in range(25):
+                    k, b, bit = roll() % 16, roll() % (n + 2), roll() % 2
+                    name = {0: 'start', 1: 'start', 2: 'leave', 3: 'pull'}.get(k, 'step')
+                    refused += lock.call(name, b, bit) != 0
+                inside = [b for b in lock.station if lock.station[b] == 'inside']
+                assert len(inside) <= 1
+                stood = ''.join(letters[lock.station[b]] for b in sorted(lock.station))
+                shown = ' ' + ''.join(signs[lock.flag[b]] for b in sorted(lock.flag)) if kind == 'one-bit' else ''
+                print(f'{kind} {n} {refused:>2} {stood}{shown}')
+
+
+def turns():
+    source = (Path(__file__).parent.parent / 'crates/turns/src/main.rt').read_text()
+    calls = re.findall(r'^ +Call::(\w+)\((\d)(?:, (\w+))?\),$', source, re.M)
+    lock = OneBit(3)
+    print(' no  call   board  bit  refused  flag 1   flag 2   flag 3   station')
+    for no, (name, board, bit) in enumerate(calls, 1):
+        b, name = int(board), name.lower()
+        refused = lock.call(name, b, int(bit == 'true'))
+        shown = {'true': '1', 'false': '0', '': '-'}[bit]
+        flags = '  '.join(f'{lock.flag[j]:<7}' for j in (1, 2, 3))
+        print(f"{no:>3}  {name:<5}  {b:>5}  {shown:>3}  {refused:>7}  {flags}  {lock.station.get(b, '-')}")
+
+
+{'drill': drill, 'turns': turns}[sys.argv[1]]()
