@@ -2,7 +2,8 @@
 ghost use Rattle.cell.specs.Rule.{Held};
 use crate::plane::Backplane;
 
-#[derive(Clone, Copy)]
+// One lock is one thing: it is neither copied nor cloned.
+#[derive(Drop)]
 pub struct CellLock {
     pub(crate) plane: Backplane,
     ghost held: { Held plane },

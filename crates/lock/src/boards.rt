@@ -3,6 +3,7 @@ ghost use Prim.Native.Nat.{_<_, _≤_};
 ghost use mathlib.Core.Logic.{_⊎_};
 ghost use mathlib.Core.Path.{_≡_};
 ghost use Rattle.lock.specs.Most.{most};
+ghost use Rattle.lock.specs.Others.{other-after};
 ghost use Rattle.std.specs.Options.{Cases as BySome};
 
 // The most boards that one analyser has; `most` says the same to the clauses.
@@ -32,6 +33,22 @@ impl Boards {
         ensures { λ r. ⌜ r ≡ self .count ⌝ }
     {
         self.count
+    }
+
+    // The lowest board above j, a board's own left out.
+    pub fn other_after(self, own: u8, j: u8) -> Option<u8>
+        ensures { λ r. ⌜ r ≡ other-after (self .count) own j ⌝ }
+    {
+        let past = if j < self.count && j + 1 == own {
+            own
+        } else {
+            j
+        };
+        if past < self.count {
+            Some(past + 1)
+        } else {
+            None
+        }
     }
 
     // The most boards that there can be.

@@ -5,7 +5,9 @@ use mathlib.Core.Logic.{_⊎_, inl, inr}
 use Prim.Native.Nat.{ℕ, suc, _+_, _-_, _≤_, _<_}
 use native.Mathlib.Omega.{arith}
 use lib.Dec.{eqb, ltb}
-use Rattle.std.proofs.shelf.Tests.{eqb-true, eqb-false, ltb-true, ltb-false, lt-ltb, eq-eqb, ne-eqb}
+use Rattle.std.specs.declared.option.Option.{Option}
+use Rattle.std.specs.declared.option.Option.the-variants.{Some, None}
+use Rattle.std.proofs.shelf.Tests.{cases-lt, ltb-true, ltb-false, lt-ltb, ne-eqb}
 use Rattle.line.specs.declared.Level.{Level}
 use Rattle.line.specs.declared.Level.the-variants as to
 use Rattle.line.specs.declared.Line.{Line}
@@ -13,11 +15,13 @@ use Rattle.line.specs.declared.Line.the-variants.{Low, Rising, High, Falling}
 use Rattle.line.specs.Rule.{begun, ended, moving}
 use Rattle.lock.specs.declared.station.Station.{Station}
 use Rattle.lock.specs.declared.station.Station.the-variants as at
+use Rattle.lock.specs.Others.{other-after}
+use Rattle.lock.proofs.Others.{NextOther, Found, other-found}
 use Rattle.lock.proofs.Stations.{out≢trying, trying≢inside, trying≢leaving, true≢false}
 use Rattle.one_bit.specs.declared.lines.Board.{Board}
 use Rattle.one_bit.specs.declared.lines.Place.{Place}
 use Rattle.one_bit.specs.declared.lines.Place.the-variants.{Out, Raising, Reading, Lowering, Awaiting, Inside, Leaving}
-use Rattle.one_bit.specs.Rule.{high, board, station, skipped, onward, read-on, wait-on, changed, lowered, stepped}
+use Rattle.one_bit.specs.Rule.{high, board, station, reads, onward, read-on, wait-on, changed, lowered, stepped}
 use Rattle.one_bit.specs.Sound.{fits, passed}
 
 -- a test that came out false proves anything where it is said to be true
@@ -26,35 +30,34 @@ never e = absurd (true≢false false e refl)
 
 -- b, having read up to j, has passed no other board above j
 pub onward-passed : (n b j i : ℕ) → i ≤ n → (i ≡ b → ⊥) → passed (onward n b j) i ≡ true → i ≤ j
-onward-passed n b j i most ne = go (eqb (j + 1) b) refl (ltb (skipped b j) n) refl
+onward-passed n b j i most ne = go (other-after n b j) (other-found n b j)
   where
-    near : (e : Bool) → eqb (j + 1) b ≡ e → i ≤ cond e b j → i ≤ j
-    near true h k = let same = eqb-true (j + 1) b h in let apart : i ≡ b → ⊥ = ne in omega arith
-    near false h k = k
+    -- a board above j would be b
+    above : (j < i → i ≡ b) → i ≤ j
+    above only = elim (cases-lt j i) [ inl lt ↦ absurd (ne (only lt)) | inr le ↦ le ]
 
-    go : (e : Bool) → eqb (j + 1) b ≡ e → (t : Bool) → ltb (cond e b j) n ≡ t → passed (cond t (Reading (cond e b j + 1)) Inside) i ≡ true → i ≤ j
-    go e h true k w = let lt = ltb-true i (cond e b j + 1) w in near e h (omega arith)
-    go e h false k w = let ge = ltb-false (cond e b j) n k in near e h (omega arith)
+    go : (o : Option ℕ) → Found n b j o → passed (reads o) i ≡ true → i ≤ j
+    go (Some k) f w = above (λ lt. f .3 i lt (ltb-true i k w))
+    go None f w = above (λ lt. f i lt most)
 
 -- it does not read its own flag
 pub onward-fits : (n b j : ℕ) → fits b High (onward n b j) ≡ true
-onward-fits n b j = go (eqb (j + 1) b) refl (ltb (skipped b j) n)
+onward-fits n b j = go (other-after n b j) (other-found n b j)
   where
-    go : (e : Bool) → eqb (j + 1) b ≡ e → (t : Bool) → fits b High (cond t (Reading (cond e b j + 1)) Inside) ≡ true
-    go true h true = let ne = ne-eqb (b + 1) b (λ e. omega arith) in rw ne
-    go false h true = rw h
-    go e h false = refl
+    go : (o : Option ℕ) → Found n b j o → fits b High (reads o) ≡ true
+    go (Some k) f = let ne = ne-eqb k b (f .2) in rw ne
+    go None f = refl
 
 -- where a step may take a board: it stays, goes from trying to inside, or from leaving to out
 abbrev pub Way : Station → Station → Type 0
 Way s t = (t ≡ s) ⊎ (((s ≡ at.Trying) × (t ≡ at.Inside)) ⊎ ((s ≡ at.Leaving) × (t ≡ at.Out)))
 
 onward-way : (n b j : ℕ) → Way at.Trying (station (onward n b j))
-onward-way n b j = go (ltb (skipped b j) n)
+onward-way n b j = go (other-after n b j)
   where
-    go : (t : Bool) → Way at.Trying (station (cond t (Reading (skipped b j + 1)) Inside))
-    go true = inl refl
-    go false = inr (inl (refl, refl))
+    go : (o : Option ℕ) → Way at.Trying (station (reads o))
+    go (Some k) = inl refl
+    go None = inr (inl (refl, refl))
 
 pub step-way : (n b : ℕ) (level : Level) (f : Line) (p : Place) → Way (station p) (station (stepped n b level f p .place))
 step-way n b level f Out = inl refl
@@ -196,40 +199,36 @@ some-left n b f Inside low high = omega arith
 some-left n b f Leaving low high = omega arith
 
 -- the readings that are left once b has read up to j
-onward-go : (n b j k : ℕ) → b ≤ n → (j ≡ b → ⊥) → 1 + (n - j) ≤ k + cond (ltb j b) 1 0 → (onward n b j ≡ Inside) ⊎ (1 + to-go n b High (onward n b j) ≤ k)
-onward-go n b j k most ne room = go (eqb (j + 1) b) refl (ltb (skipped b j) n) refl
+onward-go : (n b j m : ℕ) → b ≤ n → 1 + (n - j) ≤ m + cond (ltb j b) 1 0 → (onward n b j ≡ Inside) ⊎ (1 + to-go n b High (onward n b j) ≤ m)
+onward-go n b j m most room = go (other-after n b j) (other-found n b j)
   where
-    left : (m : ℕ) (t u : Bool) → ltb j b ≡ t → ltb (m + 1) b ≡ u → m < n → (((j + 1 ≡ b → ⊥) × (m ≡ j)) ⊎ ((j + 1 ≡ b) × (m ≡ b))) → 1 + (n - j) ≤ k + cond t 1 0
-        → 1 + cond u (n - (m + 1)) (n - (m + 1) + 1) ≤ k
-    left m true true p q lt w r = let a = ltb-true j b p in let c = ltb-true (m + 1) b q in elim w [ inl v ↦ (let x = v .1 in omega arith) | inr v ↦ (let x = v .1 in omega arith) ]
-    left m true false p q lt w r = let a = ltb-true j b p in let c = ltb-false (m + 1) b q in elim w [ inl v ↦ (let x = v .1 in let y = v .0 in absurd (y (omega arith))) | inr v ↦ (let x = v .1 in let y = v .0 in omega arith) ]
-    left m false true p q lt w r = let a = ltb-false j b p in let c = ltb-true (m + 1) b q in elim w [ inl v ↦ (let x = v .1 in omega arith) | inr v ↦ (let x = v .1 in let y = v .0 in omega arith) ]
-    left m false false p q lt w r = let a = ltb-false j b p in let c = ltb-false (m + 1) b q in elim w [ inl v ↦ (let x = v .1 in omega arith) | inr v ↦ (let x = v .1 in let y = v .0 in omega arith) ]
+    left : (k : ℕ) → NextOther n b j k → (t u : Bool) → ltb j b ≡ t → ltb k b ≡ u → 1 + (n - j) ≤ m + cond t 1 0 → 1 + cond u (n - k) (n - k + 1) ≤ m
+    left k f true true p q r = let a = f .0 in let c = f .1 in omega arith
+    left k f true false p q r =
+        let a = f .0 in let c = f .1 in let lt = ltb-true j b p in let ge = ltb-false k b q in
+        let apart : k ≡ b → ⊥ = f .2 in omega arith
+    left k f false true p q r = let a = f .0 in let ge = ltb-false j b p in let lt = ltb-true k b q in absurd (omega arith)
+    left k f false false p q r = let a = f .0 in let c = f .1 in omega arith
 
-    go : (e : Bool) → eqb (j + 1) b ≡ e → (t : Bool) → ltb (cond e b j) n ≡ t
-        → (cond t (Reading (cond e b j + 1)) Inside ≡ Inside) ⊎ (1 + to-go n b High (cond t (Reading (cond e b j + 1)) Inside) ≤ k)
-    go true h true q = inr (left b (ltb j b) (ltb (b + 1) b) refl refl (ltb-true b n q) (inr (eqb-true (j + 1) b h, refl)) room)
-    go false h true q = inr (left j (ltb j b) (ltb (j + 1) b) refl refl (ltb-true j n q) (inl (eqb-false (j + 1) b h, refl)) room)
-    go e h false q = inl refl
+    go : (o : Option ℕ) → Found n b j o → (reads o ≡ Inside) ⊎ (1 + to-go n b High (reads o) ≤ m)
+    go (Some k) f = inr (left k f (ltb j b) (ltb k b) refl refl room)
+    go None f = inl refl
 
 -- a step that reads low, or nothing, takes a trying board inside or leaves it fewer steps to go
 pub nearer : (n b : ℕ) (f : Line) (p : Place) → 1 ≤ b → b ≤ n → fits b f p ≡ true → station p ≡ at.Trying
     → (stepped n b to.Low f p .place ≡ Inside) ⊎ (1 + to-go n b (stepped n b to.Low f p .flag) (stepped n b to.Low f p .place) ≤ to-go n b f p)
 nearer n b f Out low high h e = absurd (out≢trying e)
 nearer n b Low Raising low high h e = inr (omega arith)
-nearer n b Rising Raising low high h e = onward-go n b 0 n high (λ z. omega arith) (let t = lt-ltb 0 b low in rw t (omega arith))
+nearer n b Rising Raising low high h e = onward-go n b 0 n high (let t = lt-ltb 0 b low in rw t (omega arith))
 nearer n b High Raising low high h e = never h
 nearer n b Falling Raising low high h e = never h
 nearer n b Low (Reading j) low high h e = never h
 nearer n b Rising (Reading j) low high h e = never h
-nearer n b High (Reading j) low high h e = onward-go n b j (cond (ltb j b) (n - j) (n - j + 1)) high (λ z. own z) (room (ltb j b))
+nearer n b High (Reading j) low high h e = onward-go n b j (cond (ltb j b) (n - j) (n - j + 1)) high (room (ltb j b))
   where
     room : (t : Bool) → 1 + (n - j) ≤ cond t (n - j) (n - j + 1) + cond t 1 0
     room true = omega arith
     room false = omega arith
-
-    own : j ≡ b → ⊥
-    own z = true≢false (not (eqb j b)) h (let t = eq-eqb j b z in rw t)
 nearer n b Falling (Reading j) low high h e = never h
 nearer n b Low (Lowering j) low high h e = never h
 nearer n b Rising (Lowering j) low high h e = never h

@@ -1,8 +1,10 @@
 -- The rule of the one-bit lock, on flags and places: Lamport's one-bit algorithm, cut into steps.
 use mathlib.Core.Bool.{Bool, true, false, cond}
 use mathlib.Core.List.{List, map}
-use Prim.Native.Nat.{ℕ, _+_}
-use lib.Dec.{eqb, ltb}
+use Prim.Native.Nat.{ℕ}
+use lib.Dec.{ltb}
+use Rattle.std.specs.declared.option.Option.{Option}
+use Rattle.std.specs.declared.option.Option.the-variants.{Some, None}
 use Rattle.std.specs.declared.result.Result.{Result}
 use Rattle.std.specs.declared.result.Result.the-variants.{Ok, Err}
 use Rattle.line.specs.declared.Level.{Level}
@@ -17,6 +19,7 @@ use Rattle.lock.specs.declared.station.Refusal.{Refusal}
 use Rattle.lock.specs.declared.station.Refusal.the-variants.{NoSuchBoard}
 use Rattle.lock.specs.declared.station.Station.{Station}
 use Rattle.lock.specs.declared.station.Station.the-variants as at
+use Rattle.lock.specs.Others.{other-after}
 use Rattle.lock.specs.Stations.{accepted}
 use Rattle.lock.specs.Tables.{filled, listed, kept-for, asked, written}
 use Rattle.one_bit.specs.declared.lines.Board.{Board}
@@ -80,11 +83,12 @@ seen l bit Inside = to.Low
 seen l bit Leaving = to.Low
 
 -- where board b goes once it has read the flags up to board j's: to read the next one but its own, or, with none left, inside
-abbrev pub skipped : ℕ → ℕ → ℕ
-skipped b j = cond (eqb (j + 1) b) b j
+abbrev pub reads : Option ℕ → Place
+reads (Some k) = Reading k
+reads None = Inside
 
 abbrev pub onward : ℕ → ℕ → ℕ → Place
-onward n b j = cond (ltb (skipped b j) n) (Reading (skipped b j + 1)) Inside
+onward n b j = reads (other-after n b j)
 
 -- board b has read board j's flag: low, it goes on; high, it lowers its own for a lower board, and reads a higher one's again
 abbrev pub read-on : ℕ → ℕ → ℕ → Level → Place

@@ -2,7 +2,8 @@
 ghost use Rattle.one_bit.specs.Sound.{Apart, Fits, Raised};
 use crate::lines::Lines;
 
-#[derive(Clone, Copy)]
+// One lock is one thing: it is neither copied nor cloned.
+#[derive(Drop)]
 pub struct OneBit {
     pub(crate) lines: Lines,
     ghost raised: { Raised lines },

@@ -31,28 +31,22 @@ impl Place {
         }
     }
 
-    // Where a board goes once it has read the flags up to board `read`: to the next one's but its own, or inside.
-    fn onward(count: u8, own: u8, read: u8) -> Place
-        ensures { λ r. ⌜ r ≡ onward count own read ⌝ }
+    // Where a board goes once it has read the flags up to board j's: to the next one's but its own, or inside.
+    fn onward(boards: Boards, own: u8, j: u8) -> Place
+        ensures { λ r. ⌜ r ≡ onward (boards .count) own j ⌝ }
     {
-        let past = if read < count && read + 1 == own {
-            own
-        } else {
-            read
-        };
-        if past < count {
-            Place::Reading(past + 1)
-        } else {
-            Place::Inside
+        match boards.other_after(own, j) {
+            Some(next) => Place::Reading(next),
+            None => Place::Inside,
         }
     }
 
     // Where a board goes that has read the flag of board j.
-    fn read_on(count: u8, own: u8, j: u8, level: Level) -> Place
-        ensures { λ r. ⌜ r ≡ read-on count own j level ⌝ }
+    fn read_on(boards: Boards, own: u8, j: u8, level: Level) -> Place
+        ensures { λ r. ⌜ r ≡ read-on (boards .count) own j level ⌝ }
     {
         match level {
-            Level::Low => Place::onward(count, own, j),
+            Level::Low => Place::onward(boards, own, j),
             Level::High => {
                 if j < own {
                     Place::Lowering(j)
@@ -136,14 +130,14 @@ impl Board {
         }
     }
 
-    // One step of this board, number `own` of `count`, that reads `level` if it reads a flag.
-    fn stepped(self, count: u8, own: u8, level: Level) -> Board
-        ensures { λ r. ⌜ r ≡ stepped count own level (self .flag) (self .place) ⌝ }
+    // One step of this board, whose number is `own`, that reads `level` if it reads a flag.
+    fn stepped(self, boards: Boards, own: u8, level: Level) -> Board
+        ensures { λ r. ⌜ r ≡ stepped (boards .count) own level (self .flag) (self .place) ⌝ }
     {
         match self.place {
             Place::Out | Place::Inside => self,
-            Place::Raising => self.change(Level::High, Place::onward(count, own, 0)),
-            Place::Reading(j) => self.at(Place::read_on(count, own, j, level)),
+            Place::Raising => self.change(Level::High, Place::onward(boards, own, 0)),
+            Place::Reading(j) => self.at(Place::read_on(boards, own, j, level)),
             Place::Lowering(j) => self.change(Level::Low, Place::Awaiting(j)),
             Place::Awaiting(j) => self.at(Place::wait_on(j, level)),
             Place::Leaving => self.go_out(),
@@ -222,8 +216,8 @@ impl Lines {
         self.station(board)?;
         let own = self.seat(board);
         let level = self.read(bit, own.place);
-        let count = self.table.boards().count();
-        self.put(board, own.stepped(count, board, level));
+        let boards = self.table.boards();
+        self.put(board, own.stepped(boards, board, level));
         Ok(())
     }
 
