@@ -122,12 +122,55 @@ mod tests {
 
     #[test]
     fn fills_replies_and_keeps_what_is_beyond() -> Result<(), Fail> {
-        let blank = Stamped::new(9, Reply { board: 9, number: 9 });
+        let blank = Stamped::new(
+            9,
+            Reply {
+                board: 9,
+                number: 9,
+            },
+        );
         let mut replies = [blank; 3];
-        fill_two(&mut replies, Stamped::new(0, Reply { board: 1, number: 0 }), Stamped::new(1, Reply { board: 2, number: 5 }))?;
-        check_eq((replies[0].place, replies[0].value.board, replies[0].value.number), (0, 1, 0))?;
-        check_eq((replies[1].place, replies[1].value.board, replies[1].value.number), (1, 2, 5))?;
-        check_eq((replies[2].place, replies[2].value.board, replies[2].value.number), (9, 9, 9))
+        fill_two(
+            &mut replies,
+            Stamped::new(
+                0,
+                Reply {
+                    board: 1,
+                    number: 0,
+                },
+            ),
+            Stamped::new(
+                1,
+                Reply {
+                    board: 2,
+                    number: 5,
+                },
+            ),
+        )?;
+        check_eq(
+            (
+                replies[0].place,
+                replies[0].value.board,
+                replies[0].value.number,
+            ),
+            (0, 1, 0),
+        )?;
+        check_eq(
+            (
+                replies[1].place,
+                replies[1].value.board,
+                replies[1].value.number,
+            ),
+            (1, 2, 5),
+        )?;
+        check_eq(
+            (
+                replies[2].place,
+                replies[2].value.board,
+                replies[2].value.number,
+            ),
+            (9, 9, 9),
+        )
     }
 
     #[test]

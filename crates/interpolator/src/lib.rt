@@ -12,8 +12,7 @@ mod refusal;
 mod register;
 
 pub use facts::gap_accepts_full_scale;
-pub use facts::gap_refuses_start_above;
-pub use facts::gap_refuses_stop_above;
+pub use facts::gap_refuses_one_more;
 pub use gap::Gap;
 pub use gap_kind::GapIsInterpolator;
 pub use refusal::Refusal;
