@@ -4,7 +4,8 @@ ghost use mathlib.Core.Bool.{true};
 ghost use Prim.Native.Nat.{_≤_};
 ghost use Rattle.interpolator.specs.Gaps.{gap-scale, stands, stop-at};
 
-// The gap is the stop minus the start, below zero where the stop comes first.
+// The gap is the stop minus the start, below zero where the stop comes first. The facts say that
+// the start, and the stop that comes of the two, lie from 0 to full scale.
 #[derive(Clone, Copy)]
 pub struct Gap {
     pub(crate) start: u32,

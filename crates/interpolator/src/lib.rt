@@ -29,6 +29,7 @@ pub trait Interpolator: Sized {
 
     ghost scale: { ℕ };
 
+    // The two counts that a value stands for, whatever it keeps.
     ghost start: { Self → ℕ };
 
     ghost stop: { Self → ℕ };
@@ -39,26 +40,31 @@ pub trait Interpolator: Sized {
     fn limit() -> u32
         ensures { λ r. ⌜ r ≡ scale ⌝ };
 
+    // Both counts are 0.
     fn new() -> Self
         ensures start { λ r. ⌜ start r ≡ 0 ⌝ }
         ensures stop { λ r. ⌜ stop r ≡ 0 ⌝ };
 
+    // Puts the start and leaves the stop; above full scale it is refused, and the whole value stays.
     fn put_start(&mut self, count: u32) -> Result<(), Refusal>
         ensures answers { λ r. ⌜ r ≡ put-answered scale count ⌝ }
         ensures start { λ _. ⌜ start (now (self .exit)) ≡ put scale count (start (now (self .entry))) ⌝ }
         ensures stop { λ _. ⌜ stop (now (self .exit)) ≡ stop (now (self .entry)) ⌝ }
         ensures kept { λ r. ⌜ (isOk r ≡ false → now (self .exit) ≡ now (self .entry)) ⌝ };
 
+    // Puts the stop and leaves the start, likewise.
     fn put_stop(&mut self, count: u32) -> Result<(), Refusal>
         ensures answers { λ r. ⌜ r ≡ put-answered scale count ⌝ }
         ensures start { λ _. ⌜ start (now (self .exit)) ≡ start (now (self .entry)) ⌝ }
         ensures stop { λ _. ⌜ stop (now (self .exit)) ≡ put scale count (stop (now (self .entry))) ⌝ }
         ensures kept { λ r. ⌜ (isOk r ≡ false → now (self .exit) ≡ now (self .entry)) ⌝ };
 
+    // Tells the start, and changes nothing.
     fn take_start(&self) -> u32
         ensures tells { λ r. ⌜ r ≡ start (now (self .entry)) ⌝ }
         ensures kept { λ _. ⌜ now (self .exit) ≡ now (self .entry) ⌝ };
 
+    // Tells the stop, and changes nothing.
     fn take_stop(&self) -> u32
         ensures tells { λ r. ⌜ r ≡ stop (now (self .entry)) ⌝ }
         ensures kept { λ _. ⌜ now (self .exit) ≡ now (self .entry) ⌝ };
@@ -80,7 +86,7 @@ mod tests {
     use super::*;
     use std::test::*;
 
-    // A start and a stop are put, then each again by itself, then one above full scale.
+    // Both counts are put, then each again by itself, then a start above full scale where there is one.
     fn exercise<I: Interpolator + Drop>(above: Option<u32>) -> Result<(), Fail> {
         let mut i = I::new();
         check_eq((i.take_start(), i.take_stop()), (0, 0))?;
