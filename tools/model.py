@@ -124,11 +124,112 @@ class Cell(Lock):
     left = pulled = started
 
 
+class Queue(Lock):
+    """The queue layer over a lock of another class."""
+
+    def __init__(self, n, low):
+        super().__init__(n)
+        self.low = low(n)
+        self.y = {b: 'low' for b in self.station}
+        self.z = {b: {j: 'low' for j in self.station if j != b} for b in self.station}
+        self.passed = {b: False for b in self.station}
+        self.doing = {}
+
+    def step(self, b, bit):
+        self.bit = bit
+        next(self.doing[b], None)
+
+    def read(self, line):
+        return {'low': 0, 'high': 1}.get(line, self.bit)
+
+    def favoured(self, b, j):
+        """Reads j's z line for b, and tells which of the two the pair favours."""
+        one_level = self.read(self.z[j][b]) == (self.z[b][j] == 'high')
+        return (min(b, j) if one_level else max(b, j)) == b
+
+    def try_in(self, b):
+        others = sorted(self.z[b])
+        for j in others:
+            turn = self.favoured(b, j)
+            yield
+            if turn:
+                up = self.z[b][j] == 'low'
+                self.z[b][j] = 'rising' if up else 'falling'
+                yield
+                self.z[b][j] = 'high' if up else 'low'
+                yield
+        noted = []
+        for j in others:
+            if self.read(self.y[j]):
+                noted.append(j)
+            yield
+        self.y[b] = 'rising'
+        yield
+        self.y[b] = 'high'
+        self.passed[b] = True
+        yield
+        while noted:
+            up = self.read(self.y[noted[0]])
+            yield
+            if not up:
+                noted.pop(0)
+                continue
+            if self.favoured(b, noted[0]):
+                noted.pop(0)
+            yield
+        self.low.call('start', b)
+        yield
+        while True:
+            self.low.call('step', b, self.bit)
+            self.station[b] = self.low.station[b]
+            yield
+
+    def down(self, b):
+        while self.low.station[b] != 'out':
+            self.low.call('step', b, self.bit)
+            yield
+
+    def go_out(self, b):
+        yield from self.down(b)
+        self.y[b] = 'falling'
+        yield
+        self.y[b] = 'low'
+        self.station[b] = 'out'
+        yield
+
+    def end_pull(self, b):
+        yield from self.down(b)
+        self.y[b] = 'low'
+        for j in self.z[b]:
+            self.z[b][j] = {'rising': 'high', 'falling': 'low'}.get(self.z[b][j], self.z[b][j])
+        self.station[b] = 'out'
+        yield
+
+    def started(self, b):
+        self.passed[b] = False
+        self.doing[b] = self.try_in(b)
+
+    def left(self, b):
+        self.low.call('leave', b)
+        self.doing[b] = self.go_out(b)
+
+    def pulled(self, b):
+        self.low.call('pull', b)
+        if self.y[b] != 'low':
+            self.y[b] = 'falling'
+        self.doing[b] = self.end_pull(b)
+
+    def standing(self, b):
+        at = self.station.get(b, '-')
+        return at if at != 'trying' else 'waiting' if self.passed[b] else 'doorway'
+
+
 def drill():
     signs = {'low': '_', 'rising': '/', 'high': '^', 'falling': '\\'}
     letters = {'out': 'o', 'trying': 't', 'inside': 'I', 'leaving': 'l'}
     for n in range(1, 9):
-        for kind, lock in (('one-bit', OneBit(n)), ('cell', Cell(n))):
+        kinds = (('one-bit', OneBit(n)), ('cell', Cell(n)), ('queue on one-bit', Queue(n, OneBit)), ('queue on cell', Queue(n, Cell)))
+        for kind, lock in kinds:
             seed = n
 
             def roll():
@@ -136,7 +237,7 @@ def drill():
                 seed = (seed * 1664525 + 1013904223) % 2**32
                 return seed >> 16
 
-            for _ in range(24):
+            for _ in range(12):
                 refused = 0
                 for _ in range(25):
                     k, b, bit = roll() % 16, roll() % (n + 2), roll() % 2
@@ -145,6 +246,8 @@ def drill():
                 inside = [b for b in lock.station if lock.station[b] == 'inside']
                 assert len(inside) <= 1
                 stood = ''.join(letters[lock.station[b]] for b in sorted(lock.station))
+                if kind.startswith('queue'):
+                    stood = ''.join({'d': 't'}.get(lock.standing(b)[0], letters.get(lock.standing(b), 'w')) for b in sorted(lock.station))
                 shown = ' ' + ''.join(signs[lock.flag[b]] for b in sorted(lock.flag)) if kind == 'one-bit' else ''
                 print(f'{kind} {n} {refused:>2} {stood}{shown}')
 
@@ -152,6 +255,7 @@ def drill():
 def turns():
     source = (Path(__file__).parent.parent / 'crates/turns/src/main.rt').read_text()
     calls = re.findall(r'^ +Call::(\w+)\((\d)(?:, (\w+))?\),$', source, re.M)
+    queued = re.findall(r'^ +\(Call::(\w+)\((\d)(?:, (\w+))?\), (\d+)\),$', source, re.M)
     lock = OneBit(3)
     print(' no  call   board  bit  refused  flag 1   flag 2   flag 3   station')
     for no, (name, board, bit) in enumerate(calls, 1):
@@ -160,6 +264,13 @@ def turns():
         shown = {'true': '1', 'false': '0', '': '-'}[bit]
         flags = '  '.join(f'{lock.flag[j]:<7}' for j in (1, 2, 3))
         print(f"{no:>3}  {name:<5}  {b:>5}  {shown:>3}  {refused:>7}  {flags}  {lock.station.get(b, '-')}")
+    lock = Queue(3, OneBit)
+    print()
+    print('call   board  times  refused  board 1  board 2  board 3')
+    for name, board, bit, times in queued:
+        b, name = int(board), name.lower()
+        refused = [lock.call(name, b, int(bit == 'true')) for _ in range(int(times))][-1]
+        print(f"{name:<5}  {b:>5}  {times:>5}  {refused:>7}  " + '  '.join(f'{lock.standing(j):<7}' for j in (1, 2, 3)))
 
 
 {'drill': drill, 'turns': turns}[sys.argv[1]]()

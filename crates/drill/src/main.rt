@@ -1,4 +1,4 @@
-// Drill: many calls, drawn by a fixed rule, on both locks at every number of boards; the outcome is compared with what an
+// Drill: many calls, drawn by a fixed rule, on every lock at every number of boards; the outcome is compared with what an
 // independent model of the rules wrote (tools/model.py).
 use cell::CellIsLock;
 use cell::CellLock;
@@ -6,11 +6,15 @@ use line::Line;
 use lock::Boards;
 use lock::Call;
 use lock::Lock;
+use lock::Ordered;
 use lock::Refusal;
 use lock::Station;
 use lock::perform;
 use one_bit::OneBit;
 use one_bit::OneBitIsLock;
+use queue::Queue;
+use queue::QueueIsLock;
+use queue::QueueIsOrdered;
 use std::alloc::AllocError;
 use std::alloc::Global;
 use std::error::AnyError;
@@ -18,7 +22,7 @@ use std::error::AnyError;
 // A line is printed after every so many calls, so many times.
 const CALLS: u8 = 25;
 
-const LINES: u8 = 24;
+const LINES: u8 = 12;
 
 // Calls drawn by a fixed rule, so that the model can draw the same.
 #[derive(Drop)]
@@ -129,11 +133,42 @@ fn drill_cell(rt: &LibcRuntime, boards: Boards) -> Result<(), AnyError> {
     Ok(())
 }
 
+// The standing of each board over a queue layer, a letter each: a board that waits past its doorway is told apart.
+fn standings<L: Lock>(heap: Global, lock: &Queue<L>, count: u8) -> Result<String, AllocError> {
+    let mut text = String::new(heap);
+    for board in 1..=count {
+        let letter = match lock.waiting(board) {
+            Ok(true) => 'w',
+            _ => station_letter(lock.station(board)),
+        };
+        text.push(letter)?;
+    }
+    Ok(text)
+}
+
+fn drill_queue<L: Lock + Drop>(
+    rt: &LibcRuntime,
+    name: &str,
+    boards: Boards,
+) -> Result<(), AnyError> {
+    let count = boards.count();
+    let mut dice = Dice::new(count);
+    let mut lock: Queue<L> = Queue::new(boards);
+    for _ in 0..LINES {
+        let refused = some_calls(&mut lock, &mut dice, count);
+        let stood = standings(rt.alloc(), &lock, count)?;
+        println!(rt, "queue on {name} {count} {refused:>2} {stood}")?;
+    }
+    Ok(())
+}
+
 fn drill(rt: &LibcRuntime) -> Result<(), AnyError> {
     for count in 1..=8 {
         if let Some(boards) = Boards::new(count) {
             drill_one_bit(rt, boards)?;
             drill_cell(rt, boards)?;
+            drill_queue::<OneBit>(rt, "one-bit", boards)?;
+            drill_queue::<CellLock>(rt, "cell", boards)?;
         }
     }
     Ok(())

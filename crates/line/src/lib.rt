@@ -43,6 +43,16 @@ impl Line {
         }
     }
 
+    // The level that the line rests at, or is in change to: what its own board knows of it.
+    pub fn heading(self) -> Level
+        ensures { λ r. ⌜ r ≡ heading self ⌝ }
+    {
+        match self {
+            Line::Low | Line::Falling => Level::Low,
+            Line::Rising | Line::High => Level::High,
+        }
+    }
+
     // The first half of a change: the line goes in change to a level, unless it rests there.
     pub fn begin(self, to: Level) -> Line
         ensures gives { λ r. ⌜ r ≡ begun self to ⌝ }

@@ -39,21 +39,21 @@ module _ {L : Type 0} (fresh : Boards → L) (after : L → Call → L) (station
     pub moved : (n : Boards) (l : L) (c : Call) → Good n l → MovesAt fresh after stations l c
 
   -- b is trying and all others are out; b is leaving
-  abbrev Clear : Boards → ℕ → L → Type 0
+  abbrev pub Clear : Boards → ℕ → L → Type 0
   Clear n b l = Good n l × Stands (stations l) b Trying × OthersOut (stations l) b
 
-  abbrev Going : Boards → ℕ → L → Type 0
+  abbrev pub Going : Boards → ℕ → L → Type 0
   Going n b l = Good n l × Stands (stations l) b Leaving
 
   module _ (k : Calls) where
-    good-after : (n : Boards) (l : L) (c : Call) → Good n l → Good n (after l c)
+    pub good-after : (n : Boards) (l : L) (c : Call) → Good n l → Good n (after l c)
     good-after n l c g =
         elim (cases-bool (accepted (stations l) c)) [
           | inl t ↦ k .next n l c g t
           | inr f ↦ subst (Good n) (sym (k .moved n l c g .0 f)) g
         ]
 
-    reached : (n : Boards) (cs : List Call) → Good n (run after (fresh n) cs)
+    pub reached : (n : Boards) (cs : List Call) → Good n (run after (fresh n) cs)
     reached n cs = always after (Good n) (good-after n) (fresh n) cs (k .first n)
 
     pub calls-move : CallsMove fresh after stations
@@ -81,7 +81,7 @@ module _ {L : Type 0} (fresh : Boards → L) (after : L → Call → L) (station
         subst (λ us. Stands us b s) (sym (m .1)) (stands-other (stations l) (board c) b (m .0) s (board-there (stations l) c acc .0) (λ e. ne (sym e)) h)
 
     -- a start while all others are out makes it clear for b
-    clear-start : (n : Boards) (l : L) (b : ℕ) → Good n l → accepted (stations l) (Start b) ≡ true → OthersOut (stations l) b → Clear n b (after l (Start b))
+    pub clear-start : (n : Boards) (l : L) (b : ℕ) → Good n l → accepted (stations l) (Start b) ≡ true → OthersOut (stations l) b → Clear n b (after l (Start b))
     clear-start n l b g acc o =
         let was = start-accepted (stations l) b acc in
         let m = k .moved n l (Start b) g .1 acc in (
@@ -160,7 +160,7 @@ module _ {L : Type 0} (fresh : Boards → L) (after : L → Call → L) (station
             | inr h ↦ absurd (out≢inside (sym (o j (ok acc) (h .0) (h .1)) ∙ h .2))
           ]
 
-      clear-falls : (l : L) (c : Call) → Clear n b l → (accepted (stations l) c ≡ true → Spares b c)
+      pub clear-falls : (l : L) (c : Call) → Clear n b l → (accepted (stations l) c ≡ true → Spares b c)
           → Stands (stations (after l c)) b Inside ⊎ (Clear n b (after l c) × Q l c)
       clear-falls l c (g, s, o) ok =
           elim (cases-bool (accepted (stations l) c)) [
@@ -213,7 +213,7 @@ module _ {L : Type 0} (fresh : Boards → L) (after : L → Call → L) (station
             | inr h ↦ apart l j Inside g h inside≢leaving
           ]) acc
 
-      going-falls : (l : L) (c : Call) → Going n b l → Stands (stations (after l c)) b Out ⊎ (Going n b (after l c) × Q l c)
+      pub going-falls : (l : L) (c : Call) → Going n b l → Stands (stations (after l c)) b Out ⊎ (Going n b (after l c) × Q l c)
       going-falls l c (g, s) =
           elim (cases-bool (accepted (stations l) c)) [
             | inl t ↦ going-on l c (g, s) t

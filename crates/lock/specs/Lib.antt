@@ -4,3 +4,4 @@ pub mod Numbers
 pub mod Stations
 pub mod Runs
 pub mod Tables
+pub mod Order

@@ -7,6 +7,8 @@ use Prim.Native.Nat.{ℕ, _-_, _≤_}
 use lib.ListN.{length, getD, set}
 use lib.Dec.{leb}
 use Rattle.std.specs.Results.{isOk}
+use Rattle.std.specs.declared.option.Option.{Option}
+use Rattle.std.specs.declared.option.Option.the-variants.{Some, None}
 use Rattle.std.specs.declared.result.Result.{Result}
 use Rattle.std.specs.declared.result.Result.the-variants.{Ok, Err}
 use Rattle.lock.specs.declared.station.Call.{Call}
@@ -14,6 +16,7 @@ use Rattle.lock.specs.declared.station.Call.the-variants.{Start, Step, Leave, 
 use Rattle.lock.specs.declared.station.Refusal.{Refusal}
 use Rattle.lock.specs.declared.station.Refusal.the-variants.{NoSuchBoard, NotOut, NotEngaged, NotInside}
 use Rattle.lock.specs.declared.station.Station.{Station}
+use Rattle.lock.specs.Most.{most}
 use Rattle.lock.specs.declared.station.Station.the-variants.{Out, Trying, Inside, Leaving}
 
 -- the board that a call names
@@ -26,6 +29,10 @@ board (Pull b) = b
 -- b is one of the boards 1 to n
 abbrev pub among : ℕ → ℕ → Bool
 among n b = leb 1 b && leb b n
+
+-- where board b stands in an array with a place for every board that there can be
+abbrev pub place-of : ℕ → Option ℕ
+place-of b = cond (among most b) (Some (b - 1)) None
 
 -- the station of board b
 abbrev pub at : List Station → ℕ → Station

@@ -1,5 +1,5 @@
 // The meaning of a lock: N boards, their stations, and what every implementation has to show.
-ghost use mathlib.Core.Bool.{true, false};
+ghost use mathlib.Core.Bool.{Bool, true, false};
 ghost use mathlib.Core.List.{List};
 ghost use mathlib.Core.Path.{_≡_};
 ghost use Prim.Native.Nat.{ℕ};
@@ -8,6 +8,7 @@ ghost use Rattle.lock.specs.declared.boards.Boards.{Boards};
 ghost use Rattle.lock.specs.declared.station.Call.{Call};
 ghost use Rattle.lock.specs.declared.station.Call.the-variants.{Start, Step, Leave, Pull};
 ghost use Rattle.lock.specs.declared.station.Station.{Station};
+ghost use Rattle.lock.specs.Order.{InOrder, PassesWithin, waits-told};
 ghost use Rattle.lock.specs.Stations.{AtMostOne, Moves, answer, told};
 ghost use Rattle.lock.specs.Runs.{AllOut, CallsMove, Exclusive, EntersWithin, OutWithin, run};
 
@@ -27,6 +28,7 @@ pub use station::Station;
 pub use station::StationDebug;
 pub use station::StationPartialEq;
 pub use table::Table;
+pub use table::place_of;
 
 // A lock for N boards. What the code holds is a value of the type; `state` is the part of it that
 // the lock's rule speaks of, and `after` is that rule, call by call.
@@ -94,6 +96,25 @@ pub trait Lock: Sized {
         ensures leaves { λ _. ⌜ state (now (self .exit)) ≡ after (state (now (self .entry))) (Pull board) ⌝ }
         ensures moves { λ r. ⌜ (isOk r ≡ true → Moves (stations (state (now (self .entry)))) (Pull board) (stations (state (now (self .exit))))) ⌝ }
         ensures kept { λ r. ⌜ (isOk r ≡ false → now (self .exit) ≡ now (self .entry)) ⌝ };
+}
+
+// A lock that keeps order. A started board is in its doorway until it passes it by its own steps; from then on it waits,
+// until it is inside or pulled. A board goes inside only when none stands ahead of it: ahead are those that waited when its
+// start was accepted, and since then were neither inside nor pulled.
+pub trait Ordered: Lock {
+    // A board has passed its doorway and is not yet inside.
+    ghost waits: { Self·State → ℕ → Bool };
+
+    // The own steps, by N, in which a started board passes its doorway.
+    ghost doorway: { ℕ → ℕ };
+
+    law order: { InOrder (Self·Lock .fresh) (Self·Lock .after) (Self·Lock .stations) waits };
+
+    law passes: { PassesWithin (Self·Lock .fresh) (Self·Lock .after) (Self·Lock .stations) waits doorway };
+
+    // Tells whether a board has passed its doorway and is not yet inside, and changes nothing.
+    fn waiting(&self, board: u8) -> Result<bool, Refusal>
+        ensures { λ r. ⌜ r ≡ waits-told (Self·Lock .fresh) (Self·Lock .after) (Self·Lock .stations) waits (Self·Lock .state (now (self .entry))) board ⌝ };
 }
 
 // Makes one call.

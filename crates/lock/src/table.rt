@@ -1,12 +1,27 @@
 // A table with one record for each board.
 ghost use mathlib.Core.Bool.{true};
 ghost use mathlib.Core.Path.{_≡_};
-ghost use Prim.Native.Nat.{_≤_};
+ghost use Prim.Native.Nat.{_<_, _≤_};
+ghost use Rattle.std.specs.Options.{Cases as BySome};
+ghost use Rattle.lock.specs.Stations.{place-of};
 ghost use Rattle.lock.specs.Most.{most};
 ghost use Rattle.lock.specs.Tables.{asked, filled, judged, kept-for, written};
 use crate::boards::Boards;
 use crate::boards::MAX_BOARDS;
 use crate::station::Refusal;
+
+// Where a board stands in an array with a place for every board that there can be.
+pub fn place_of(board: u8) -> Option<usize>
+    ensures tells { λ r. ⌜ r ≡ place-of board ⌝ }
+    ensures within { λ r. ⌜ BySome r (Unit {0}) (λ i. i < most) ⌝ }
+{
+    let place = usize::from(board);
+    if 1 <= place && place <= MAX_BOARDS {
+        Some(place - 1)
+    } else {
+        None
+    }
+}
 
 // There is room for as many boards as there can be; the first N records are in use.
 #[derive(Clone, Copy)]

@@ -12,4 +12,12 @@ returns c = record {
   second-tries = λ bit. refl;
   reads-low = λ bit. refl;
   reads-high = λ bit. refl;
+  first-before = refl;
+  first-passes = refl;
+  second-before = refl;
+  second-passes = refl;
+  twice-tries = refl;
+  twice-enters = refl;
+  twice-leaves = refl;
+  twice-out = refl;
 }
