@@ -34,6 +34,7 @@ use Rattle.queue.specs.declared.state.Phase.{Phase}
 use Rattle.queue.specs.declared.state.Phase.the-variants.{Out, Pairing, Turning, Noting, Raising, Watching, Comparing, Below, Leaving}
 use Rattle.queue.specs.declared.state.Row.{Row}
 use Rattle.queue.specs.Rule.{door, none, high, lowest, noted, noting, pairing, paired, turned-on, favours, opposite, line-at, put-at, z-of, half-turned, turned, settled, watched, compared, raised, lowered, door-step, row-step, sent-step, started, passed-on, MovedBelow}
+use Rattle.queue.specs.Lines.{OneMoves}
 use Rattle.queue.proofs.Moves.{step-below}
 
 pub never : {P : Type 0} → false ≡ true → P
@@ -125,6 +126,10 @@ may-move Leaving k = true
 abbrev pub Rests : Phase → Row → Type 0
 Rests p r = (k : ℕ) → may-move p k ≡ false → moving (z-of r k) ≡ false
 
+-- where all z lines rest, none moves
+none-moves : (r : Row) → ((k : ℕ) → moving (z-of r k) ≡ false) → OneMoves r
+none-moves r rest i k p q = absurd (true≢false (moving (z-of r i)) p (rest i))
+
 -- board b of n: its station below, its y and its phase, and its row
 pub record Fit (n b : ℕ) (s : Station) (y : Line) (p : Phase) (r : Row) : Type 0 where
   pub below : fits-below p s ≡ true
@@ -132,6 +137,7 @@ pub record Fit (n b : ℕ) (s : Station) (y : Line) (p : Phase) (r : Row) : Type
   pub named : names n b p ≡ true
   pub rests : Rests p r
   pub wide : length (r .z) ≡ most
+  pub single : OneMoves r
 
 -- the phases of the doorway
 pub other-names : (n b j k : ℕ) → NextOther n b j k → other n b k ≡ true
@@ -190,6 +196,7 @@ pairing-fit n b j s y r out l rest wide = record {
   named = pairing-names n b j;
   rests = pairing-rests n b (other-after n b j) r rest;
   wide = wide;
+  single = none-moves r rest;
 }
 
 -- the z line for j after a writing at the place of i
@@ -293,7 +300,15 @@ turning-fit n b j s y r few f false e = record {
     | inr ne ↦ ap moving (turned-other r j k ne) ∙ f .rests k m
   ];
   wide = turned-wide r j ∙ f .wide;
+  single = λ i k p q. sym (turns i p) ∙ turns k q;
 }
+  where
+    turns : (i : ℕ) → moving (z-of (turned r j) i) ≡ true → j ≡ i
+    turns i p =
+        elim (cases-eq j i) [
+          | inl same ↦ same
+          | inr ne ↦ absurd (true≢false (moving (z-of (turned r j) i)) p (ap moving (turned-other r j i ne) ∙ f .rests i (ne-eqb j i ne)))
+        ]
 
 module _ {L : Type 0} (fresh : Boards → L) (after : L → Call → L) (below : L → List Station) where
   -- a step below, as far as it concerns the board itself
@@ -325,7 +340,7 @@ module _ {L : Type 0} (fresh : Boards → L) (after : L → Call → L) (below :
   step-fit l n b bit r level out y notes (Pairing j) few p1 p2 e m f = go (favours b (heading (z-of r j)) j level)
     where
       go : (t : Bool) → Fit n b (stations.at (below l) b) y (paired n b j t) r
-      go true = record { below = f .below; line = f .line; named = f .named; rests = λ k _. f .rests k refl; wide = f .wide }
+      go true = record { below = f .below; line = f .line; named = f .named; rests = λ k _. f .rests k refl; wide = f .wide; single = f .single }
       go false = pairing-fit n b j (stations.at (below l) b) y r (f .below) (f .line) (λ k. f .rests k refl) (f .wide)
   step-fit l n b bit r level out y notes (Turning j) few p1 p2 e m f = turning-fit n b j (stations.at (below l) b) y r few f (moving (z-of r j)) refl
   step-fit l n b bit r level out y notes (Noting j) few p1 p2 e m f = record {
@@ -334,9 +349,10 @@ module _ {L : Type 0} (fresh : Boards → L) (after : L → Call → L) (below :
     named = noting-names n b j;
     rests = noting-rests (other-after n b j) r (λ k. f .rests k refl);
     wide = f .wide;
+    single = f .single;
   }
-  step-fit l n b bit r level out Low notes Raising few p1 p2 e m f = record { below = f .below; line = refl; named = refl; rests = f .rests; wide = f .wide }
-  step-fit l n b bit r level out Rising notes Raising few p1 p2 e m f = record { below = f .below; line = refl; named = refl; rests = f .rests; wide = f .wide }
+  step-fit l n b bit r level out Low notes Raising few p1 p2 e m f = record { below = f .below; line = refl; named = refl; rests = f .rests; wide = f .wide; single = f .single }
+  step-fit l n b bit r level out Rising notes Raising few p1 p2 e m f = record { below = f .below; line = refl; named = refl; rests = f .rests; wide = f .wide; single = f .single }
   step-fit l n b bit r level out High notes Raising few p1 p2 e m f = never (f .line)
   step-fit l n b bit r level out Falling notes Raising few p1 p2 e m f = never (f .line)
   step-fit l n b bit r level out y notes Watching few p1 p2 e m f = go (lowest notes) level m
@@ -345,36 +361,38 @@ module _ {L : Type 0} (fresh : Boards → L) (after : L → Call → L) (below :
           → Fit n b (stations.at (below (after l (Start b))) b) y (cond t Below Watching) r
       starts true h k =
           let tries : stations.at (below (after l (Start b))) b ≡ at.Trying = ap (λ ss. stations.at ss b) (k .1 h) ∙ stands-with (below l) b at.Trying p1 p2 .2 in
-          record { below = ap engaged tries; line = f .line; named = refl; rests = f .rests; wide = f .wide }
+          record { below = ap engaged tries; line = f .line; named = refl; rests = f .rests; wide = f .wide; single = f .single }
       starts false h k = absurd (true≢false _ (can-start l b p1 p2 (out-station _ (f .below))) h)
 
       go : (o : Option ℕ) (v : Level) → MovedBelow after below fresh l (started b o)
           → Fit n b (stations.at (below (passed-on after below l (started b o))) b) (watched y notes out v o .y) (watched y notes out v o .phase) r
       go None v k = starts out e k
-      go (Some j) to.Low k = record { below = f .below; line = f .line; named = refl; rests = f .rests; wide = f .wide }
-      go (Some j) to.High k = record { below = f .below; line = f .line; named = refl; rests = f .rests; wide = f .wide }
+      go (Some j) to.Low k = record { below = f .below; line = f .line; named = refl; rests = f .rests; wide = f .wide; single = f .single }
+      go (Some j) to.High k = record { below = f .below; line = f .line; named = refl; rests = f .rests; wide = f .wide; single = f .single }
   step-fit l n b bit r level out y notes Comparing few p1 p2 e m f = go (lowest notes)
     where
       go : (o : Option ℕ) → Fit n b (stations.at (below l) b) (compared b r level y notes o .y) (compared b r level y notes o .phase) r
-      go None = record { below = f .below; line = f .line; named = refl; rests = f .rests; wide = f .wide }
-      go (Some j) = record { below = f .below; line = f .line; named = refl; rests = f .rests; wide = f .wide }
+      go None = record { below = f .below; line = f .line; named = refl; rests = f .rests; wide = f .wide; single = f .single }
+      go (Some j) = record { below = f .below; line = f .line; named = refl; rests = f .rests; wide = f .wide; single = f .single }
   step-fit l n b bit r level out y notes Below few p1 p2 e m f = record {
     below = stays-engaged (stations.at (below l) b) _ (f .below) (steps-below l b bit m);
     line = f .line;
     named = refl;
     rests = f .rests;
     wide = f .wide;
+    single = f .single;
   }
-  step-fit l n b bit r level true Low notes Leaving few p1 p2 e m f = record { below = ap is-out (start-accepted (below l) b e .2); line = refl; named = refl; rests = λ k _. settled-rests r k; wide = length-map (r .z) ended ∙ f .wide }
+  step-fit l n b bit r level true Low notes Leaving few p1 p2 e m f = record { below = ap is-out (start-accepted (below l) b e .2); line = refl; named = refl; rests = λ k _. settled-rests r k; wide = length-map (r .z) ended ∙ f .wide; single = none-moves (settled r) (settled-rests r) }
   step-fit l n b bit r level true Rising notes Leaving few p1 p2 e m f = never (f .line)
-  step-fit l n b bit r level true High notes Leaving few p1 p2 e m f = record { below = f .below; line = refl; named = refl; rests = λ k x. never (sym x); wide = f .wide }
-  step-fit l n b bit r level true Falling notes Leaving few p1 p2 e m f = record { below = ap is-out (start-accepted (below l) b e .2); line = refl; named = refl; rests = λ k _. settled-rests r k; wide = length-map (r .z) ended ∙ f .wide }
+  step-fit l n b bit r level true High notes Leaving few p1 p2 e m f = record { below = f .below; line = refl; named = refl; rests = λ k x. never (sym x); wide = f .wide; single = f .single }
+  step-fit l n b bit r level true Falling notes Leaving few p1 p2 e m f = record { below = ap is-out (start-accepted (below l) b e .2); line = refl; named = refl; rests = λ k _. settled-rests r k; wide = length-map (r .z) ended ∙ f .wide; single = none-moves (settled r) (settled-rests r) }
   step-fit l n b bit r level false y notes Leaving few p1 p2 e m f = record {
     below = stays-going (stations.at (below l) b) _ (f .below) (steps-below l b bit m);
     line = f .line;
     named = refl;
     rests = λ k x. never (sym x);
     wide = f .wide;
+    single = f .single;
   }
 
   -- the fit after a pull
@@ -387,6 +405,7 @@ module _ {L : Type 0} (fresh : Boards → L) (after : L → Call → L) (below :
     named = refl;
     rests = λ k x. never (sym x);
     wide = f .wide;
+    single = f .single;
   }
     where
       falls : (z : Line) → not (rising (begun z to.Low)) ≡ true
@@ -400,6 +419,7 @@ module _ {L : Type 0} (fresh : Boards → L) (after : L → Call → L) (below :
     named = refl;
     rests = λ k x. never (sym x);
     wide = f .wide;
+    single = f .single;
   }
     where
       still : (t : Bool) → going (stations.at (below l) b) ≡ t → t ≡ true

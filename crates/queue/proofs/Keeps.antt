@@ -192,6 +192,7 @@ module _ {L : Type 0} (fresh : Boards → L) (after : L → Call → L) (below :
         named = refl;
         rests = λ j x. never (sym x);
         wide = f .wide;
+        single = f .single;
       }
     where
       accepts : (t : Station) → t ≡ at.Inside → among (length (below (q .below))) b ≡ true → isOk (cond (among (length (below (q .below))) b) (leave-at t) (Err NoSuchBoard)) ≡ true
@@ -253,7 +254,7 @@ module _ {L : Type 0} (fresh : Boards → L) (after : L → Call → L) (below :
       go true = ap (λ xs. getD xs (b - 1) low-row) (take-replicate (n .count) most low-row (n .few)) ∙ each (n .count) (b - 1)
       go false = refl
 
-  low-rests : (k : ℕ) → moving (z-of low-row k) ≡ false
+  pub low-rests : (k : ℕ) → moving (z-of low-row k) ≡ false
   low-rests k = go (place-of k)
     where
       each : (m i : ℕ) → getD (replicate m Low) i Low ≡ Low
@@ -281,6 +282,7 @@ module _ {L : Type 0} (fresh : Boards → L) (after : L → Call → L) (below :
           named = refl;
           rests = λ k _. low-rests k;
           wide = length-replicate most Low;
+          single = λ i k p q. absurd (true≢false (moving (z-of low-row i)) p (low-rests i));
         }));
   }
 

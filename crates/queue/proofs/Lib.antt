@@ -9,3 +9,4 @@ pub mod Enters
 pub mod Owed
 pub mod Pair
 pub mod Ahead
+pub mod Owned

@@ -6,12 +6,14 @@ ghost use Rattle.std.specs.Results.{isOk};
 ghost use Rattle.line.specs.Rule.{reading};
 ghost use Rattle.lock.specs.declared.station.Call.the-variants.{Start, Step, Leave, Pull};
 ghost use Rattle.lock.specs.Stations.{accepted, answer, told};
+ghost use Rattle.queue.specs.Lines.{OneInChange, OwnLines, y-told};
 ghost use Rattle.queue.specs.Rule.{MovedBelow, acted, door-at, new-queue, next-door, next-row, over, queue-after, row-at, seen, sent, shown, station-there, waits, z-of};
 
 mod rule;
 mod state;
 
 use line::Level;
+use line::Line;
 use lock::Boards;
 use lock::Call;
 use lock::Lock;
@@ -29,6 +31,23 @@ pub use state::Queue;
 pub use state::Row;
 
 impl<L: Lock> Queue<L> {
+    // Tells a board's line y. In every layer that calls on a new one lead to, no call moves a line of a board that it does
+    // not name, and no board has two z lines in change.
+    pub fn y(&self, board: u8) -> Result<Line, Refusal>
+        ensures tells { λ r. ⌜ r ≡ y-told (now (self .entry)) board ⌝ }
+        ensures owned { λ _. ⌜ OwnLines (L·Lock .fresh) (L·Lock .after) (L·Lock .stations) ⌝ }
+        ensures single { λ _. ⌜ OneInChange (L·Lock .fresh) (L·Lock .after) (L·Lock .stations) ⌝ }
+    {
+        self.line_y(board)
+    }
+
+    fn line_y(&self, board: u8) -> Result<Line, Refusal>
+        ensures { λ r. ⌜ r ≡ y-told (now (self .entry)) board ⌝ }
+    {
+        let own = self.doors.record(board)?;
+        Ok(own.y)
+    }
+
     // The board of this number; one that is not there is out.
     fn door(&self, board: u8) -> Door
         ensures { λ r. ⌜ r ≡ door-at (now (self .entry)) board ⌝ }
