@@ -109,19 +109,16 @@ pub pairing-way : (n b : ℕ) (o : Option ℕ) → on-way (pairing n b o) ≡ tr
 pairing-way n b (Some k) = refl
 pairing-way n b None = noting-way (other-after n b 0)
 
-some-go : (n b : ℕ) (y : Line) (r : Row) (p : Phase) → 1 ≤ to-go n b y r p
-some-go n b y r Out = omega arith
-some-go n b y r (Pairing j) = omega arith
-some-go n b y r (Turning j) = elim (moving (z-of r j)) as (λ t. 1 ≤ cond t 1 2 + 3 * left n b j + n + 2) [ true ↦ omega arith | false ↦ omega arith ]
-some-go n b y r (Noting j) = omega arith
-some-go n b y r Raising = elim (moving y) as (λ t. 1 ≤ cond t 2 3) [ true ↦ omega arith | false ↦ omega arith ]
-some-go n b y r Watching = omega arith
-some-go n b y r Comparing = omega arith
-some-go n b y r Below = omega arith
-some-go n b y r Leaving = omega arith
-
 pub some-left : (n b : ℕ) (y : Line) (r : Row) (p : Phase) → 1 ≤ to-go n b y r p
-some-left = some-go
+some-left n b y r Out = omega arith
+some-left n b y r (Pairing j) = omega arith
+some-left n b y r (Turning j) = elim (moving (z-of r j)) as (λ t. 1 ≤ cond t 1 2 + 3 * left n b j + n + 2) [ true ↦ omega arith | false ↦ omega arith ]
+some-left n b y r (Noting j) = omega arith
+some-left n b y r Raising = elim (moving y) as (λ t. 1 ≤ cond t 2 3) [ true ↦ omega arith | false ↦ omega arith ]
+some-left n b y r Watching = omega arith
+some-left n b y r Comparing = omega arith
+some-left n b y r Below = omega arith
+some-left n b y r Leaving = omega arith
 
 -- a step in the doorway leads on; its own y read as low of others is all that it asks
 pub nearer : (n b : ℕ) (s : Station) (r : Row) (level : Level) (out : Bool) (y : Line) (notes : List Bool) (p : Phase) → n ≤ most → 1 ≤ b → b ≤ n → Fit n b s y p r → doorway p ≡ true

@@ -34,7 +34,7 @@ use Rattle.queue.specs.declared.state.Row.{Row}
 use Rattle.queue.specs.Rule.{door, watched, started, read-y, none, lowest, pairing, noted, station, sent-step, door-step, row-step, shown, door-at, row-at, seen, out-below, sent, next-door, next-row, passed-on, done, new-queue, queue-after}
 use Rattle.queue.proofs.Shown.{There, length-shown, at-shown}
 use Rattle.queue.proofs.Moves.{there-done, door-done, call-there, took, stayed}
-use Rattle.queue.proofs.Fits.{never, is-out, engaged, low, other, fits-below, fits-y, names, Fit, can-start}
+use Rattle.queue.proofs.Fits.{never, engaged, low, out-station, other, fits-below, fits-y, names, Fit, can-start}
 use Rattle.queue.proofs.Keeps.{Real, Good, count-doors, known-below, length-real, row-done, calls, out-phase}
 use Rattle.queue.proofs.Settles.{Left, left-alone, passes-other, own-step}
 use Rattle.queue.proofs.Doorway.{left-first, to-go, pairing-go, doorway, on-way, pairing-way, some-left, nearer}
@@ -79,17 +79,11 @@ module _ {L : Type 0} (fresh : Boards → L) (after : L → Call → L) (below :
   out-there n q j g h e =
       let f = g .fit j h in
       let p = is-it (out-phase (low-at q j) (door-at q j .phase) (sym (at-shown below q j h) ∙ e)) (f .below) in
-      (p, low-is (door-at q j .y) (sym (ap (λ x. fits-y x (door-at q j .y)) p) ∙ f .line), low-out (low-at q j) (sym (ap (λ x. fits-below x (low-at q j)) p) ∙ f .below))
+      (p, low-is (door-at q j .y) (sym (ap (λ x. fits-y x (door-at q j .y)) p) ∙ f .line), out-station (low-at q j) (sym (ap (λ x. fits-below x (low-at q j)) p) ∙ f .below))
     where
       is-it : (door-at q j .phase ≡ Out) ⊎ ((door-at q j .phase ≡ Below) × (low-at q j ≡ at.Out)) → fits-below (door-at q j .phase) (low-at q j) ≡ true → door-at q j .phase ≡ Out
       is-it (inl p) k = p
       is-it (inr w) k = never (sym (ap (λ x. fits-below x (low-at q j)) (w .0) ∙ ap engaged (w .1)) ∙ k)
-
-      low-out : (s : Station) → is-out s ≡ true → s ≡ at.Out
-      low-out at.Out k = refl
-      low-out at.Trying k = never k
-      low-out at.Inside k = never k
-      low-out at.Leaving k = never k
 
   others-low : (n : Boards) (q : Queue L) (b : ℕ) → Ok n q → OthersOut (shown below q) b → OthersOut (below (q .below)) b
   others-low n q b g o j ne p r =
@@ -163,7 +157,7 @@ module _ {L : Type 0} (fresh : Boards → L) (after : L → Call → L) (below :
         | inr p ↦
             let known = known-below fresh after below begins moves n q b g h in
             let f′ = subst (λ x. fits-below x (low-at q b) ≡ true) p (f .below) in
-            let free : out-below below q b ≡ true = can-start fresh after below (q .below) b (h .0) known (low-out (low-at q b) f′) in
+            let free : out-below below q b ≡ true = can-start fresh after below (q .below) b (h .0) known (out-station (low-at q b) f′) in
             let nobody : lowest (door-at q b .notes) ≡ None = ap lowest none-noted in
             let starts : sent below q (Step b bit) ≡ Some (Start b) = ap (sent-step b bit (out-below below q b) (door-at q b .notes)) p ∙ ap (started b) nobody in
             inl (
@@ -178,12 +172,6 @@ module _ {L : Type 0} (fresh : Boards → L) (after : L → Call → L) (below :
                   ∙ ap (λ t. cond t Below Watching) free,
             )
       ]
-    where
-      low-out : (t : Station) → is-out t ≡ true → t ≡ at.Out
-      low-out at.Out x = refl
-      low-out at.Trying x = never x
-      low-out at.Inside x = never x
-      low-out at.Leaving x = never x
 
   -- what b is told while it is clear for it, over a call of another board or a refused one
   extra-left : (n : Boards) (b : ℕ) (q r : Queue L) → Left fresh after below begins moves q r b → Extra b q → Extra b r × (μ n b r ≡ μ n b q)

@@ -59,6 +59,12 @@ going at.Trying = false
 going at.Inside = false
 going at.Leaving = true
 
+pub out-station : (s : Station) → is-out s ≡ true → s ≡ at.Out
+out-station at.Out h = refl
+out-station at.Trying h = never h
+out-station at.Inside h = never h
+out-station at.Leaving h = never h
+
 -- which stations below go with which phase
 abbrev pub fits-below : Phase → Station → Bool
 fits-below Out s = is-out s
@@ -95,6 +101,12 @@ fits-y Watching y = high y
 fits-y Comparing y = high y
 fits-y Below y = high y
 fits-y Leaving y = not (rising y)
+
+pulled-line : (y : Line) → not (rising (begun y to.Low)) ≡ true
+pulled-line Low = refl
+pulled-line Rising = refl
+pulled-line High = refl
+pulled-line Falling = refl
 
 -- a phase of the doorway names another board
 abbrev pub other : ℕ → ℕ → ℕ → Bool
@@ -320,12 +332,6 @@ module _ {L : Type 0} (fresh : Boards → L) (after : L → Call → L) (below :
         | inr (inr w) ↦ inr (inr w)
       ]
 
-  out-station : (s : Station) → is-out s ≡ true → s ≡ at.Out
-  out-station at.Out h = refl
-  out-station at.Trying h = never h
-  out-station at.Inside h = never h
-  out-station at.Leaving h = never h
-
   -- a board that is out below can be started there
   pub can-start : (l : L) (b : ℕ) → 1 ≤ b → b ≤ length (below l) → stations.at (below l) b ≡ at.Out → accepted (below l) (Start b) ≡ true
   can-start l b p q e = let k = among-from (length (below l)) b p q in rw (k, e)
@@ -401,21 +407,15 @@ module _ {L : Type 0} (fresh : Boards → L) (after : L → Call → L) (below :
       → Fit n b (stations.at (below (passed-on after below l (cond t (Some (Pull b)) None))) b) (begun y to.Low) Leaving r
   pull-fit l n b true y p r p1 p2 e m f g = record {
     below = ap going (ap (λ ss. stations.at ss b) (m .1 e) ∙ stands-with (below l) b at.Leaving p1 p2 .2);
-    line = falls y;
+    line = pulled-line y;
     named = refl;
     rests = λ k x. never (sym x);
     wide = f .wide;
     single = f .single;
   }
-    where
-      falls : (z : Line) → not (rising (begun z to.Low)) ≡ true
-      falls Low = refl
-      falls Rising = refl
-      falls High = refl
-      falls Falling = refl
   pull-fit l n b false y p r p1 p2 e m f g = record {
     below = still (going (stations.at (below l) b)) refl;
-    line = falls y;
+    line = pulled-line y;
     named = refl;
     rests = λ k x. never (sym x);
     wide = f .wide;
@@ -425,9 +425,3 @@ module _ {L : Type 0} (fresh : Boards → L) (after : L → Call → L) (below :
       still : (t : Bool) → going (stations.at (below l) b) ≡ t → t ≡ true
       still true h = refl
       still false h = never (g h)
-
-      falls : (z : Line) → not (rising (begun z to.Low)) ≡ true
-      falls Low = refl
-      falls Rising = refl
-      falls High = refl
-      falls Falling = refl

@@ -41,6 +41,11 @@ use Rattle.queue.proofs.Shown.{There, length-shown, at-shown}
 use Rattle.queue.proofs.Moves.{sent-board, others-below, there-done, was-there, door-done, door-other, call-there, took, stayed, moves-at}
 use Rattle.queue.proofs.Fits.{never, is-out, engaged, going, low, rising, fits-below, Fit, pairing-fit, step-fit, pull-fit}
 
+replicate-at : {X : Type 0} (x : X) (k i : ℕ) → getD (replicate k x) i x ≡ x
+replicate-at x zero i = refl
+replicate-at x (suc k) zero = refl
+replicate-at x (suc k) (suc i) = replicate-at x k i
+
 -- what a shown station says of the phase
 pub out-phase : (s : Station) (p : Phase) → station s p ≡ at.Out → (p ≡ Out) ⊎ ((p ≡ Below) × (s ≡ at.Out))
 out-phase s Out e = inl refl
@@ -233,38 +238,23 @@ module _ {L : Type 0} (fresh : Boards → L) (after : L → Call → L) (below :
   new-door : (n : Boards) (b : ℕ) → door-at (new-queue fresh n) b ≡ door Low Out none
   new-door n b = go (kept-for (new-queue fresh n .doors) b)
     where
-      each : (k i : ℕ) → getD (replicate k (door Low Out none)) i (door Low Out none) ≡ door Low Out none
-      each zero i = refl
-      each (suc k) zero = refl
-      each (suc k) (suc i) = each k i
-
       go : (t : Bool) → door-of (cond t (Ok (getD (listed (new-queue fresh n .doors)) (b - 1) (door Low Out none))) (Err NoSuchBoard)) ≡ door Low Out none
-      go true = ap (λ xs. getD xs (b - 1) (door Low Out none)) (take-replicate (n .count) most (door Low Out none) (n .few)) ∙ each (n .count) (b - 1)
+      go true = ap (λ xs. getD xs (b - 1) (door Low Out none)) (take-replicate (n .count) most (door Low Out none) (n .few)) ∙ replicate-at (door Low Out none) (n .count) (b - 1)
       go false = refl
 
   new-row : (n : Boards) (b : ℕ) → row-at (new-queue fresh n) b ≡ low-row
   new-row n b = go (kept-for (new-queue fresh n .rows) b)
     where
-      each : (k i : ℕ) → getD (replicate k low-row) i low-row ≡ low-row
-      each zero i = refl
-      each (suc k) zero = refl
-      each (suc k) (suc i) = each k i
-
       go : (t : Bool) → row-there (cond t (Ok (getD (listed (new-queue fresh n .rows)) (b - 1) low-row)) (Err NoSuchBoard)) ≡ low-row
-      go true = ap (λ xs. getD xs (b - 1) low-row) (take-replicate (n .count) most low-row (n .few)) ∙ each (n .count) (b - 1)
+      go true = ap (λ xs. getD xs (b - 1) low-row) (take-replicate (n .count) most low-row (n .few)) ∙ replicate-at low-row (n .count) (b - 1)
       go false = refl
 
   pub low-rests : (k : ℕ) → moving (z-of low-row k) ≡ false
   low-rests k = go (place-of k)
     where
-      each : (m i : ℕ) → getD (replicate m Low) i Low ≡ Low
-      each zero i = refl
-      each (suc m) zero = refl
-      each (suc m) (suc i) = each m i
-
       go : (o : Option ℕ) → moving (line-at (replicate most Low) o) ≡ false
       go None = refl
-      go (Some i) = ap moving (each most i)
+      go (Some i) = ap moving (replicate-at Low most i)
 
   pub new-good : (n : Boards) → Good n (new-queue fresh n)
   new-good n = record {

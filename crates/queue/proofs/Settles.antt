@@ -125,16 +125,21 @@ module _ {L : Type 0} (fresh : Boards → L) (after : L → Call → L) (below :
   Second n b q = Ok n q × There below q b × (door-at q b .phase ≡ Leaving) × (low-at q b ≡ at.Out)
 
   -- a call of a leaving board that is accepted is a step
-  only-steps : (n : Boards) (q : Queue L) (b : ℕ) (c : Call) → There below q b → door-at q b .phase ≡ Leaving → board c ≡ b → accepted (shown below q) c ≡ true
-      → ((bit : Bool) → c ≡ Step b bit → ⊥) → ⊥
-  only-steps n q b (Start j) h p e acc no-step = out≢leaving (sym (start-accepted (shown below q) j acc .2) ∙ ap (stations.at (shown below q)) e ∙ at-shown below q b h ∙ ap (station (low-at q b)) p)
-  only-steps n q b (Step j bit) h p e acc no-step = no-step bit (ap (λ i. Step i bit) e)
-  only-steps n q b (Leave j) h p e acc no-step = inside≢leaving (sym (leave-accepted (shown below q) j acc .2) ∙ ap (stations.at (shown below q)) e ∙ at-shown below q b h ∙ ap (station (low-at q b)) p)
-  only-steps n q b (Pull j) h p e acc no-step =
-      elim (pull-accepted (shown below q) j acc) [
-        | inl k ↦ trying≢leaving (sym (k .2) ∙ ap (stations.at (shown below q)) e ∙ at-shown below q b h ∙ ap (station (low-at q b)) p)
-        | inr k ↦ inside≢leaving (sym (k .2) ∙ ap (stations.at (shown below q)) e ∙ at-shown below q b h ∙ ap (station (low-at q b)) p)
-      ]
+  is-step : (q : Queue L) (b : ℕ) (c : Call) → There below q b → door-at q b .phase ≡ Leaving → board c ≡ b → accepted (shown below q) c ≡ true → (bit : Bool) × (c ≡ Step b bit)
+  is-step q b c h p same = go c same
+    where
+      leaves-now : (j : ℕ) (s : Station) → j ≡ b → stations.at (shown below q) j ≡ s → s ≡ at.Leaving
+      leaves-now j s e k = sym k ∙ ap (stations.at (shown below q)) e ∙ at-shown below q b h ∙ ap (station (low-at q b)) p
+
+      go : (d : Call) → board d ≡ b → accepted (shown below q) d ≡ true → (bit : Bool) × (d ≡ Step b bit)
+      go (Start j) e acc = absurd (out≢leaving (leaves-now j at.Out e (start-accepted (shown below q) j acc .2)))
+      go (Step j bit) e acc = (bit, ap (λ i. Step i bit) e)
+      go (Leave j) e acc = absurd (inside≢leaving (leaves-now j at.Inside e (leave-accepted (shown below q) j acc .2)))
+      go (Pull j) e acc =
+          elim (pull-accepted (shown below q) j acc) [
+            | inl k ↦ absurd (trying≢leaving (leaves-now j at.Trying e (k .2)))
+            | inr k ↦ absurd (inside≢leaving (leaves-now j at.Inside e (k .2)))
+          ]
 
   -- an own step of a board that is leaving below goes below
   first-own : (n : Boards) (b : ℕ) (q : Queue L) (bit : Bool) → First n b q
@@ -169,30 +174,15 @@ module _ {L : Type 0} (fresh : Boards → L) (after : L → Call → L) (below :
             let l = left-alone n q c b g h ne in
             inr ((good-up n q c g, l .there, ap (λ d. d .phase) (l .door-same) ∙ p, l .low-same ∙ s), passes-other n q c b (λ _ _. Unit {0}) ne (λ d _ _. tt))
         | inl same ↦ elim (cases-bool (accepted (shown below q) c)) [
-          | inl t ↦ by-step c same t
+          | inl t ↦
+              let w = is-step q b c h p same t in
+              subst (λ d. Second n b (up q d) ⊎ (First n b (up q d) × Passes up after (λ u. u .below) b (λ _ _. Unit {0}) q d)) (sym (w .1)) (first-own n b q (w .0) (g, h, p, s))
           | inr f ↦
               let e = stayed fresh after below q c f in
               let len = length-shown below q in let k = h .1 in
               inr (subst (First n b) (sym e) (g, h, p, s), inl (no-own (shown below q) b c (h .0) (omega arith) f, ap (λ u. u .below) e))
         ]
       ]
-    where
-      by-step : (d : Call) → board d ≡ b → accepted (shown below q) d ≡ true
-          → Second n b (up q d) ⊎ (First n b (up q d) × Passes up after (λ u. u .below) b (λ _ _. Unit {0}) q d)
-      by-step (Start j) e t = absurd (only-steps n q b (Start j) h p e t (λ bit x. starts j bit x))
-        where
-          starts : (i : ℕ) (bit : Bool) → Start i ≡ Step b bit → ⊥
-          starts i bit x = let z : _≡_ {A = ℕ} 0 1 = cc in omega arith
-      by-step (Step j bit) e t =
-          subst (λ i. Second n b (up q (Step i bit)) ⊎ (First n b (up q (Step i bit)) × Passes up after (λ u. u .below) b (λ _ _. Unit {0}) q (Step i bit))) (sym e) (first-own n b q bit (g, h, p, s))
-      by-step (Leave j) e t = absurd (only-steps n q b (Leave j) h p e t (λ bit x. leaves j bit x))
-        where
-          leaves : (i : ℕ) (bit : Bool) → Leave i ≡ Step b bit → ⊥
-          leaves i bit x = let z : _≡_ {A = ℕ} 0 1 = cc in omega arith
-      by-step (Pull j) e t = absurd (only-steps n q b (Pull j) h p e t (λ bit x. pulls j bit x))
-        where
-          pulls : (i : ℕ) (bit : Bool) → Pull i ≡ Step b bit → ⊥
-          pulls i bit x = let z : _≡_ {A = ℕ} 0 1 = cc in omega arith
 
   -- an own step of a board that is out below lowers y
   second-own : (n : Boards) (b : ℕ) (q : Queue L) (bit : Bool) → Second n b q
@@ -230,7 +220,10 @@ module _ {L : Type 0} (fresh : Boards → L) (after : L → Call → L) (below :
             let same-y = ap (λ d. to-low (d .y)) (l .door-same) in
             inr ((good-up n q c g, l .there, ap (λ d. d .phase) (l .door-same) ∙ p, l .low-same ∙ s), omega arith)
         | inl same ↦ elim (cases-bool (accepted (shown below q) c)) [
-          | inl t ↦ by-step c same t
+          | inl t ↦
+              let w = is-step q b c h p same t in
+              subst (λ d. Stands (shown below (up q d)) b at.Out ⊎ (Second n b (up q d) × (own b d + to-low (door-at (up q d) b .y) ≤ to-low (door-at q b .y)))) (sym (w .1))
+              (elim (second-own n b q (w .0) (g, h, p, s)) [ inl out ↦ inl out | inr x ↦ inr (x .0, (let one = own-same b (w .0) in rw one (x .1))) ])
           | inr f ↦
               let e = stayed fresh after below q c f in
               let len = length-shown below q in let k = h .1 in
@@ -239,27 +232,6 @@ module _ {L : Type 0} (fresh : Boards → L) (after : L → Call → L) (below :
               inr (subst (Second n b) (sym e) (g, h, p, s), omega arith)
         ]
       ]
-    where
-      by-step : (d : Call) → board d ≡ b → accepted (shown below q) d ≡ true
-          → Stands (shown below (up q d)) b at.Out ⊎ (Second n b (up q d) × (own b d + to-low (door-at (up q d) b .y) ≤ to-low (door-at q b .y)))
-      by-step (Start j) e t = absurd (only-steps n q b (Start j) h p e t (λ bit x. starts j bit x))
-        where
-          starts : (i : ℕ) (bit : Bool) → Start i ≡ Step b bit → ⊥
-          starts i bit x = let z : _≡_ {A = ℕ} 0 1 = cc in omega arith
-      by-step (Step j bit) e t =
-          subst (λ i. Stands (shown below (up q (Step i bit))) b at.Out ⊎ (Second n b (up q (Step i bit)) × (own b (Step i bit) + to-low (door-at (up q (Step i bit)) b .y) ≤ to-low (door-at q b .y)))) (sym e)
-          (elim (second-own n b q bit (g, h, p, s)) [
-            | inl out ↦ inl out
-            | inr w ↦ inr (w .0, (let one = own-same b bit in rw one (w .1)))
-          ])
-      by-step (Leave j) e t = absurd (only-steps n q b (Leave j) h p e t (λ bit x. leaves j bit x))
-        where
-          leaves : (i : ℕ) (bit : Bool) → Leave i ≡ Step b bit → ⊥
-          leaves i bit x = let z : _≡_ {A = ℕ} 0 1 = cc in omega arith
-      by-step (Pull j) e t = absurd (only-steps n q b (Pull j) h p e t (λ bit x. pulls j bit x))
-        where
-          pulls : (i : ℕ) (bit : Bool) → Pull i ≡ Step b bit → ⊥
-          pulls i bit x = let z : _≡_ {A = ℕ} 0 1 = cc in omega arith
 
   low-some : (y : Line) → (1 ≤ to-low y) × (to-low y ≤ 2)
   low-some Low = (omega arith, omega arith)
