@@ -1,7 +1,7 @@
 #!/usr/bin/env python3
-"""An independent model of the rules of the one-bit and the cell lock.
+"""A second model of the rules of the one-bit lock, the cell lock and the queue layer.
 
-It shares no text with the code or its definitions. `tools/model.py drill` writes what the program `drill` has to write,
+It shares no text with the code or its definitions, but has the same authors. `tools/model.py drill` writes what the program `drill` has to write,
 crates/drill/stdout, and `tools/model.py turns` what the program `turns` has to write, crates/turns/stdout.
 """
 import re

@@ -1,5 +1,5 @@
-// Drill: many calls, drawn by a fixed rule, on every lock at every number of boards; the outcome is compared with what an
-// independent model of the rules wrote (tools/model.py).
+// Drill: many calls, drawn by a fixed rule, on every lock at every number of boards; the outcome is compared with what a
+// second model of the rules wrote (tools/model.py).
 use cell::CellIsLock;
 use cell::CellLock;
 use line::Line;
