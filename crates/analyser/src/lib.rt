@@ -1,4 +1,6 @@
 // An analyser in service: N boards take turns at one interpolator, over any ordered lock and any interpolator.
+#![tactic(auto)]
+
 ghost use Rattle.std.specs.Prelude.{◌≡◌, ℕ, ◌+◌, ◌*◌, false, List, [], is_ok};
 ghost use Rattle.lock.specs.declared.boards.Boards.{Boards};
 ghost use Rattle.panel.specs.Panels.{blank};

@@ -1,4 +1,6 @@
 // Examples of what a buyer fits: an interpolator that keeps the start and the sum of both counts, and the latch lock.
+#![tactic(auto)]
+
 ghost use Rattle.std.specs.Prelude.{◌≡◌, ◌-◌, false, is_ok};
 ghost use Rattle.buyer.specs.Intervals.{told};
 ghost use Rattle.buyer.specs.Scale.{sum_scale};

@@ -1,4 +1,6 @@
 // The cell lock keeps the meaning of a lock: S is 1 and E is 1.
+#![tactic(auto)]
+
 ghost use Rattle.cell.specs.Rule.{after, fresh, shown};
 ghost use Rattle.cell.specs.Keeps.{local, Good};
 ghost use Rattle.lock.proofs.Local.{calls_move, exclusive, enters_within, out_within};

@@ -1,5 +1,7 @@
 // Drill: many calls, drawn by a fixed rule, on every lock at every number of boards; the outcome is compared with what a
 // second model of the rules wrote (tools/model.py).
+#![tactic(auto)]
+
 use cell::CellLock;
 use line::Line;
 use lock::{Boards, Call, Lock, Ordered, Refusal, Station, perform};

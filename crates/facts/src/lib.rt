@@ -1,4 +1,6 @@
 // Facts of the rules, each at a small number of boards: they hold, since this function is proved.
+#![tactic(auto)]
+
 ghost use Rattle.facts.specs.Facts.{Facts};
 
 pub fn facts_hold()

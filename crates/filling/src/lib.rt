@@ -1,4 +1,6 @@
 // Filling lists: records put one after the other into a slice that the caller lends.
+#![tactic(auto)]
+
 ghost use Rattle.std.specs.Prelude.{◌≡◌, ℕ, ◌<◌, ◌≤◌, true, false, length, is_ok, slice_index_or, slice_set};
 ghost use Rattle.std.specs.List.{slice_get};
 ghost use Rattle.filling.specs.Lists.{count_after, element, free_places, push_answered, slice_after};

@@ -1,4 +1,6 @@
 // The meaning of an interpolator: two counts, start and stop, and what every implementation has to show.
+#![tactic(auto)]
+
 ghost use Rattle.std.specs.Prelude.{◌≡◌, ℕ, ◌≤◌, false, is_ok};
 ghost use Rattle.interpolator.specs.Counts.{put, put_answered};
 

@@ -1,4 +1,6 @@
 // A line: driven by one board, read by the others, and in change for one step of its board.
+#![tactic(auto)]
+
 ghost use Rattle.std.specs.Prelude.{◌≡◌, true, false};
 ghost use Rattle.line.specs.Rule.{begun, ended, heading, level, moving, reading, resting};
 

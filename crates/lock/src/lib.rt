@@ -1,4 +1,6 @@
 // The meaning of a lock: N boards, their stations, and what every implementation has to show.
+#![tactic(auto)]
+
 ghost use Rattle.std.specs.Prelude.{◌≡◌, ℕ, Bool, true, false, List, is_ok};
 ghost use Rattle.lock.specs.declared.boards.Boards.{Boards};
 ghost use Rattle.lock.specs.declared.station.Call.{Call};

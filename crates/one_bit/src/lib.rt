@@ -1,4 +1,6 @@
 // The one-bit lock keeps the meaning of a lock: S is N + 1 and E is 2.
+#![tactic(auto)]
+
 ghost use Rattle.std.specs.Prelude.{◌≡◌, ◌+◌, Ok};
 ghost use Rattle.line.specs.declared.Line.TheVariants.{High};
 ghost use Rattle.lock.specs.declared.station.Station.TheVariants as at;

@@ -1,4 +1,6 @@
 // The front panel: the last reading, and how often it was painted anew.
+#![tactic(auto)]
+
 ghost use Rattle.std.specs.Prelude.{◌≡◌, true, false, Some, None};
 ghost use Rattle.panel.specs.Panels.{blank, risen, shown};
 ghost use Rattle.panel.specs.Readings.{alike};

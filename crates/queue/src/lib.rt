@@ -1,4 +1,6 @@
 // The queue layer over any lock: again a lock, and in order.
+#![tactic(auto)]
+
 ghost use Rattle.std.specs.Prelude.{◌≡◌, ◌+◌, ◌-◌, ◌*◌, true, false, is_ok};
 ghost use Rattle.line.specs.Rule.{reading};
 ghost use Rattle.lock.specs.declared.station.Call.TheVariants.{Start, Step, Leave, Pull};

@@ -1,4 +1,6 @@
 // A list of events on an analyser in service: by the analyser's public calls, one after the other, with two lists that are filled.
+#![tactic(auto)]
+
 ghost use Rattle.std.specs.Prelude.{◌≡◌, ◌+◌, ◌*◌, false, [], map, length, is_ok, IfOk, MatchResult, OnOk};
 ghost use Rattle.analyser.specs.Service.{Leads, queued, view};
 ghost use Rattle.filling.specs.Lists.{free_places};

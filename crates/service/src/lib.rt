@@ -1,4 +1,6 @@
 // What is asked of an analyser in service and how it is answered; in specs/ its rule and the law over histories, in proofs/ the law's proof.
+#![tactic(auto)]
+
 mod answer;
 mod event;
 mod progress;

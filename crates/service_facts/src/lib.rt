@@ -1,4 +1,6 @@
 // Facts of an analyser in service, each at a small number of boards: they hold, since this function is proved.
+#![tactic(auto)]
+
 ghost use Rattle.service_facts.specs.ServiceFacts.{ServiceFacts};
 
 pub fn service_facts_hold()

@@ -1,5 +1,7 @@
 // A bench session: three boards are fitted, put into service over the one-bit lock and the register, and go through a list of
 // events; every answer and the panel are printed. Then a buyer's own lock and interpolator are put into service in the same way.
+#![tactic(auto)]
+
 use analyser::Analyser;
 use anyhow::anyhow;
 use buyer::{LatchLock, Summed};

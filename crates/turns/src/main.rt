@@ -1,5 +1,7 @@
 // Three boards take turns, on fixed schedules: over the one-bit lock, each call printed with what it did, and over the queue
 // layer on it, where they go inside in the order in which they passed their doorways.
+#![tactic(auto)]
+
 mod play;
 mod row;
 
