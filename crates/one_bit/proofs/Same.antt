@@ -19,9 +19,8 @@ use Rattle.one_bit.specs.Seats.{from_shown}
 use Rattle.one_bit.specs.Steps.{never}
 use Rattle.one_bit.specs.Keeps.{Sound, after_sound, moves_at, raised}
 
-pub still_sound : (l : OneBit) (m : Lines) (c : Call) → m ≡ after l.lines c → Raised m × (Fits m × (Apart m × Unit {0}))
-still_sound l m c leaves =
-    let sound = subst Sound (sym leaves) (after_sound l.lines c (l.fits, l.apart)) in (raised m sound.0, (sound.0, (sound.1, tt)))
+pub still_sound : (l : OneBit) (m : Lines) (c : Call) → m ≡ after l.lines c → Sound m
+still_sound l m c leaves = subst Sound (sym leaves) (after_sound l.lines c (l.fits, l.apart))
 
 pub owes : (l : OneBit) (m : Lines) (c : Call) (r : Result Unit Refusal) → r ≡ answer (shown l.lines) c → m ≡ after l.lines c
     → (is_ok r ≡ true → Moves (shown l.lines) c (shown m)) × (is_ok r ≡ false → m ≡ l.lines)

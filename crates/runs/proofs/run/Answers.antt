@@ -12,7 +12,7 @@ use Rattle.analyser.proofs.Carried.{keeps}
 use Rattle.runs.proofs.Ran.{run_carries}
 use Rattle.runs.proofs.Turns.{enough, pushed, none_free, after_again, panel_again, answers_again, readings_none, readings_some, filled_one}
 use Rattle.runs.proofs.run.Goals as goal
-use Rattle.runs.proofs.run.Goals.{in-Some+in-ok-push-2, in-default}
+use Rattle.runs.proofs.run.Goals.{in-Some+in_ok-push-2, in-default}
 
 pub loop-place-preserved : goal.loop-place-preserved
 loop-place-preserved g c =
@@ -22,7 +22,7 @@ loop-place-preserved g c =
     let xs = c.args.events.now in let i = c.loop-place.place in let lt = c.loop-place-test.true in
     let inv = c.loop-place.invariant in let did = c.handle-reply.ensures in
     let A = c.loop-place.answers in let R = c.loop-place.readings in
-    let put = c.in-ok-push.ensures in
+    let put = c.in_ok-push.ensures in
     let p = pushed A.places.now A.len c.new.result put.answers in
     let at_place = put.places ∙ p.0 in
     let one_more = put.len ∙ p.1 in
@@ -35,8 +35,8 @@ loop-place-preserved g c =
     let left = readings (i + 1) (replies W full v' (drop (i + 1) xs)) in
     let o = c.handle-reply.result.shown in
     elim c.match-reply.branch [
-      | in-Some+in-ok-push-2 w ↦
-          let put₂ = w.in-ok-push-2.ensures in
+      | in-Some+in_ok-push-2 w ↦
+          let put₂ = w.in_ok-push-2.ensures in
           let q = pushed R.places.now R.len w.new-in-Some.result put₂.answers in
           let at_place₂ = put₂.places ∙ q.0 ∙ ap (set R.places.now R.len) w.new-in-Some.ensures in
           let one_more₂ = put₂.len ∙ q.1 in
@@ -71,16 +71,16 @@ loop-place-preserved g c =
           )
     ]
 
-pub returns-in-err-push : goal.returns-in-err-push
-returns-in-err-push g c =
+pub returns-in_err-push : goal.returns-in_err-push
+returns-in_err-push g c =
     let inv = c.loop-place.invariant in let A = c.loop-place.answers in
-    let full = none_free A.places.now A.len _ c.in-err-push.ensures.answers in
+    let full = none_free A.places.now A.len _ c.in_err-push.ensures.answers in
     absurd (omega (arith, full, inv.3, inv.4))
 
-pub returns-in-err-push-2 : goal.returns-in-err-push-2
-returns-in-err-push-2 g c =
+pub returns-in_err-push-2 : goal.returns-in_err-push-2
+returns-in_err-push-2 g c =
     let inv = c.loop-place.invariant in let R = c.loop-place.readings in
-    let full = none_free R.places.now R.len _ c.in-err-push-2.ensures.answers in
+    let full = none_free R.places.now R.len _ c.in_err-push-2.ensures.answers in
     absurd (omega (arith, full, inv.7, inv.8))
 
 pub returns : goal.returns

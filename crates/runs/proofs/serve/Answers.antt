@@ -14,7 +14,7 @@ use Rattle.runs.proofs.serve.Goals as goal
 pub returns : goal.returns
 returns g c =
     let W = queued g.L.Lock in let full = g.I.Interpolator.scale in let n = c.args.list.boards in let es = c.args.events.now in
-    let made = c.put-into-service-analyser.ensures in let ran = c.in-ok-run.ensures in
+    let made = c.put-into-service-analyser.ensures in let ran = c.in_ok-run.ensures in
     let v = new_view W full n in let calls = replies W full v es in
     let comes = made.leads.comes in
     let A = c.args.answers.now in let R = c.args.readings.now in

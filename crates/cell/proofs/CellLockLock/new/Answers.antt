@@ -4,5 +4,5 @@ use Rattle.cell.specs.Rule.{Held}
 use Rattle.cell.specs.Keeps.{fresh_held}
 use Rattle.cell.proofs.CellLockLock.new.Goals as goal
 
-pub invariant-of-result : goal.invariant-of-result
-invariant-of-result c = (subst Held (sym c.new.ensures) (fresh_held c.args.boards), tt)
+pub invariant_of-result : goal.invariant_of-result
+invariant_of-result c = record { held = subst Held (sym c.new.ensures) (fresh_held c.args.boards) }

@@ -3,8 +3,8 @@ use Rattle.lock.specs.declared.station.Call.TheVariants.{Start}
 use Rattle.cell.proofs.Same.{still_held, owes, same_lock}
 use Rattle.cell.proofs.CellLockLock.start.Goals as goal
 
-pub invariant-of-self : goal.invariant-of-self
-invariant-of-self c = (still_held c.args.self.now c.start.new.self (Start c.args.board) c.start.ensures.leaves, tt)
+pub invariant_of-self : goal.invariant_of-self
+invariant_of-self c = record { held = still_held c.args.self.now c.start.new.self (Start c.args.board) c.start.ensures.leaves }
 
 pub returns : goal.returns
 returns c =

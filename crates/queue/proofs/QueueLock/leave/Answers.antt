@@ -6,10 +6,10 @@ use Rattle.queue.proofs.QueueLock.leave.Goals as goal
 
 pub returns : goal.returns
 returns g c =
-    let D = g.L.Lock in let w = c.leave-in.ensures in
+    let D = g.L.Lock in let w = c.leave_in.ensures in
     record {
       answers = w.answers;
       leaves = w.leaves;
-      moves = λ ok. owes D.fresh D.after D.stations (over D.state c.args.self.now) (over D.state c.leave-in.new.self) (Leave c.args.board) c.leave-in.result (w.moved ok) w.answers w.leaves ok;
+      moves = λ ok. owes D.fresh D.after D.stations (over D.state c.args.self.now) (over D.state c.leave_in.new.self) (Leave c.args.board) c.leave_in.result (w.moved ok) w.answers w.leaves ok;
       kept = w.kept;
     }

@@ -6,10 +6,10 @@ use Rattle.queue.proofs.QueueLock.start.Goals as goal
 
 pub returns : goal.returns
 returns g c =
-    let D = g.L.Lock in let w = c.start-in.ensures in
+    let D = g.L.Lock in let w = c.start_in.ensures in
     record {
       answers = w.answers;
       leaves = w.leaves;
-      moves = λ ok. owes D.fresh D.after D.stations (over D.state c.args.self.now) (over D.state c.start-in.new.self) (Start c.args.board) c.start-in.result (w.moved ok) w.answers w.leaves ok;
+      moves = λ ok. owes D.fresh D.after D.stations (over D.state c.args.self.now) (over D.state c.start_in.new.self) (Start c.args.board) c.start_in.result (w.moved ok) w.answers w.leaves ok;
       kept = w.kept;
     }

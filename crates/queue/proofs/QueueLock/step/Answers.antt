@@ -6,10 +6,10 @@ use Rattle.queue.proofs.QueueLock.step.Goals as goal
 
 pub returns : goal.returns
 returns g c =
-    let D = g.L.Lock in let w = c.step-in.ensures in
+    let D = g.L.Lock in let w = c.step_in.ensures in
     record {
       answers = w.answers;
       leaves = w.leaves;
-      moves = λ ok. owes D.fresh D.after D.stations (over D.state c.args.self.now) (over D.state c.step-in.new.self) (Step c.args.board c.args.bit) c.step-in.result (w.moved ok) w.answers w.leaves ok;
+      moves = λ ok. owes D.fresh D.after D.stations (over D.state c.args.self.now) (over D.state c.step_in.new.self) (Step c.args.board c.args.bit) c.step_in.result (w.moved ok) w.answers w.leaves ok;
       kept = w.kept;
     }

@@ -13,11 +13,11 @@ pub loop-call-preserved : goal.loop-call-preserved
 loop-call-preserved c =
     one_more c.loop-call.lock.lines c.turn.new.lock.lines c.args.calls.now c.loop-call.call-index
     (vec_items c.loop-call.rows) (vec_items c.push.new.self) _ c.turn.result
-    c.loop-call-test.true c.turn.ensures.tells c.turn.ensures.leaves c.in-ok-push.ensures.items c.loop-call.invariant
+    c.loop-call-test.true c.turn.ensures.tells c.turn.ensures.leaves c.in_ok-push.ensures.items c.loop-call.invariant
 
-pub returns-in-err-push : goal.returns-in-err-push
-returns-in-err-push c =
-    let p = err_from_is_err_and c.from-residual.result c.from-residual.ensures.1 in
+pub returns-in_err-push : goal.returns-in_err-push
+returns-in_err-push c =
+    let p = err_from_is_err_and c.from_residual.result c.from_residual.ensures.1 in
     record { tells = rw p.1 tt; excludes = one_inside c.args.boards c.args.calls.now }
 
 pub returns : goal.returns

@@ -26,5 +26,5 @@ told false r found x y e w p = let z : ◌≡◌ {A = ℕ} 0 1 = cc in absurd (o
 pub returns-in-Doorway : goal.returns-in-Doorway
 returns-in-Doorway g c =
     let v = view g.Q.Lock.state g.I.Interpolator c.args.self.now in let b = c.args.board in
-    told (there v b) (own v b) c.in-ok-own.own c.number.result _ c.in-ok-own.ensures c.in-Doorway.is
+    told (there v b) (own v b) c.in_ok-own.own c.number.result _ c.in_ok-own.ensures c.in-Doorway.is
     (c.number.ensures ∙ ap (λ ms. bits (marked ms) c.args.self.now.boards.count) (marks_at c.args.self.now.desk.sets (b - 1)))

@@ -3,8 +3,8 @@ use Rattle.lock.specs.declared.station.Call.TheVariants.{Leave}
 use Rattle.buyer.proofs.Same.{still_held, owes, same_lock}
 use Rattle.buyer.proofs.latch_lock.LatchLockLock.leave.Goals as goal
 
-pub invariant-of-self : goal.invariant-of-self
-invariant-of-self c = (still_held c.args.self.now c.leave.new.self (Leave c.args.board) c.leave.ensures.leaves, tt)
+pub invariant_of-self : goal.invariant_of-self
+invariant_of-self c = record { held = still_held c.args.self.now c.leave.new.self (Leave c.args.board) c.leave.ensures.leaves }
 
 pub returns : goal.returns
 returns c =

@@ -15,12 +15,12 @@ use Rattle.one_bit.proofs.lines.Lines.station.Goals as goal
 tells : (l : Lines) (b : ℕ) (r s : Result Board Refusal) → r ≡ s → r ≡ asked l.table b (board Low Out) → through (λ x. station x.place) s ≡ told (shown l) b
 tells l b r s e h = ap (through (λ x. station x.place)) (sym e ∙ h) ∙ sym (told_through (λ x. station x.place) l.table b (board Low Out))
 
-pub returns-in-err-own : goal.returns-in-err-own
-returns-in-err-own c =
-    let p = err_from_is_err_and c.from-residual.result c.from-residual.ensures.1 in
-    p.1 ∙ ap Err p.2 ∙ tells c.args.self.now c.args.board c.record.result _ c.in-err-own.was (c.record.ensures (board Low Out))
+pub returns-in_err-own : goal.returns-in_err-own
+returns-in_err-own c =
+    let p = err_from_is_err_and c.from_residual.result c.from_residual.ensures.1 in
+    p.1 ∙ ap Err p.2 ∙ tells c.args.self.now c.args.board c.record.result _ c.in_err-own.was (c.record.ensures (board Low Out))
 
 pub returns : goal.returns
 returns c =
     ap Ok c.station.ensures
-    ∙ tells c.args.self.now c.args.board c.record.result _ c.in-ok-own.was (c.record.ensures (board Low Out))
+    ∙ tells c.args.self.now c.args.board c.record.result _ c.in_ok-own.was (c.record.ensures (board Low Out))

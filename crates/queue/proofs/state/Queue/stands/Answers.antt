@@ -7,13 +7,13 @@ use Rattle.queue.specs.Rule.{door, none}
 use Rattle.queue.specs.Shown.{told_record, told_refused}
 use Rattle.queue.proofs.state.Queue.stands.Goals as goal
 
-pub returns-in-err-own : goal.returns-in-err-own
-returns-in-err-own g c =
-    let p = err_from_is_err_and c.from-residual.result c.from-residual.ensures.1 in
-    p.1 ∙ ap Err p.2 ∙ told_refused (λ l. g.L.Lock.stations (g.L.Lock.state l)) c.args.self.now c.args.board _ (sym (c.record.ensures (door Low Out none)) ∙ c.in-err-own.was)
+pub returns-in_err-own : goal.returns-in_err-own
+returns-in_err-own g c =
+    let p = err_from_is_err_and c.from_residual.result c.from_residual.ensures.1 in
+    p.1 ∙ ap Err p.2 ∙ told_refused (λ l. g.L.Lock.stations (g.L.Lock.state l)) c.args.self.now c.args.board _ (sym (c.record.ensures (door Low Out none)) ∙ c.in_err-own.was)
 
 pub returns : goal.returns
 returns g c =
     ap Ok c.station.ensures
-    ∙ told_record (λ l. g.L.Lock.stations (g.L.Lock.state l)) c.args.self.now c.args.board c.in-ok-own.own c.station-below.result
-    (sym (c.record.ensures (door Low Out none)) ∙ c.in-ok-own.was) c.station-below.ensures
+    ∙ told_record (λ l. g.L.Lock.stations (g.L.Lock.state l)) c.args.self.now c.args.board c.in_ok-own.own c.station_below.result
+    (sym (c.record.ensures (door Low Out none)) ∙ c.in_ok-own.was) c.station_below.ensures

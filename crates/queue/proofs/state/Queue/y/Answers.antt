@@ -6,7 +6,7 @@ pub returns : goal.returns
 returns g c =
     let D = g.L.Lock in let M = g.met.L.Lock in
     record {
-      tells = c.line-y.ensures;
+      tells = c.line_y.ensures;
       owned = own_lines D.fresh D.after D.stations M.begins M.moves;
       single = one_in_change D.fresh D.after D.stations M.begins M.moves;
     }
