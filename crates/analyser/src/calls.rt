@@ -54,7 +54,7 @@ impl<Q: Ordered, I: Interpolator> Analyser<Q, I> {
 
     // Whether the lock tells that a board has passed its doorway.
     fn has_passed(&self, board: u8) -> bool
-        ensures { result ≡ passed (lockwork Q.Lock Q.Ordered) I.Interpolator.scale (Q.Lock.state self.now.lock) board }
+        ensures { result ≡ passed (lockwork Q.Lock Q.Ordered.own) I.Interpolator.scale (Q.Lock.state self.now.lock) board }
     {
         match self.lock.waiting(board) {
             Ok(waits) => waits,
@@ -111,8 +111,8 @@ impl<Q: Ordered, I: Interpolator> Analyser<Q, I> {
 
     fn step_doorway(&mut self, board: u8, bit: bool) -> Progress
         requires { (1 ≤ board) × (board ≤ most) }
-        ensures answers { result ≡ (doorway_step (lockwork Q.Lock Q.Ordered) I.Interpolator.scale (view Q.Lock.state I.Interpolator self.old) board bit (own (view Q.Lock.state I.Interpolator self.old) board)).tells }
-        ensures leaves { view Q.Lock.state I.Interpolator self.new ≡ (doorway_step (lockwork Q.Lock Q.Ordered) I.Interpolator.scale (view Q.Lock.state I.Interpolator self.old) board bit (own (view Q.Lock.state I.Interpolator self.old) board)).left }
+        ensures answers { result ≡ (doorway_step (lockwork Q.Lock Q.Ordered.own) I.Interpolator.scale (view Q.Lock.state I.Interpolator self.old) board bit (own (view Q.Lock.state I.Interpolator self.old) board)).tells }
+        ensures leaves { view Q.Lock.state I.Interpolator self.new ≡ (doorway_step (lockwork Q.Lock Q.Ordered.own) I.Interpolator.scale (view Q.Lock.state I.Interpolator self.old) board bit (own (view Q.Lock.state I.Interpolator self.old) board)).left }
         ensures panel { self.new.panel ≡ self.old.panel }
         ensures interpolator { self.new.interpolator ≡ self.old.interpolator }
     {
@@ -128,8 +128,8 @@ impl<Q: Ordered, I: Interpolator> Analyser<Q, I> {
     // A board that goes inside stands ahead of nobody any more.
     fn step_waiting(&mut self, board: u8, bit: bool) -> Progress
         requires { (1 ≤ board) × (board ≤ most) }
-        ensures answers { result ≡ (waiting_step (lockwork Q.Lock Q.Ordered) I.Interpolator.scale (view Q.Lock.state I.Interpolator self.old) board bit (own (view Q.Lock.state I.Interpolator self.old) board)).tells }
-        ensures leaves { view Q.Lock.state I.Interpolator self.new ≡ (waiting_step (lockwork Q.Lock Q.Ordered) I.Interpolator.scale (view Q.Lock.state I.Interpolator self.old) board bit (own (view Q.Lock.state I.Interpolator self.old) board)).left }
+        ensures answers { result ≡ (waiting_step (lockwork Q.Lock Q.Ordered.own) I.Interpolator.scale (view Q.Lock.state I.Interpolator self.old) board bit (own (view Q.Lock.state I.Interpolator self.old) board)).tells }
+        ensures leaves { view Q.Lock.state I.Interpolator self.new ≡ (waiting_step (lockwork Q.Lock Q.Ordered.own) I.Interpolator.scale (view Q.Lock.state I.Interpolator self.old) board bit (own (view Q.Lock.state I.Interpolator self.old) board)).left }
         ensures panel { self.new.panel ≡ self.old.panel }
         ensures interpolator { self.new.interpolator ≡ self.old.interpolator }
     {
@@ -146,8 +146,8 @@ impl<Q: Ordered, I: Interpolator> Analyser<Q, I> {
 
     fn step_leaving(&mut self, board: u8, bit: bool) -> Progress
         requires { (1 ≤ board) × (board ≤ most) }
-        ensures answers { result ≡ (leaving_step (lockwork Q.Lock Q.Ordered) I.Interpolator.scale (view Q.Lock.state I.Interpolator self.old) board bit (own (view Q.Lock.state I.Interpolator self.old) board)).tells }
-        ensures leaves { view Q.Lock.state I.Interpolator self.new ≡ (leaving_step (lockwork Q.Lock Q.Ordered) I.Interpolator.scale (view Q.Lock.state I.Interpolator self.old) board bit (own (view Q.Lock.state I.Interpolator self.old) board)).left }
+        ensures answers { result ≡ (leaving_step (lockwork Q.Lock Q.Ordered.own) I.Interpolator.scale (view Q.Lock.state I.Interpolator self.old) board bit (own (view Q.Lock.state I.Interpolator self.old) board)).tells }
+        ensures leaves { view Q.Lock.state I.Interpolator self.new ≡ (leaving_step (lockwork Q.Lock Q.Ordered.own) I.Interpolator.scale (view Q.Lock.state I.Interpolator self.old) board bit (own (view Q.Lock.state I.Interpolator self.old) board)).left }
         ensures panel { self.new.panel ≡ self.old.panel }
         ensures interpolator { self.new.interpolator ≡ self.old.interpolator }
     {
@@ -162,8 +162,8 @@ impl<Q: Ordered, I: Interpolator> Analyser<Q, I> {
 
     fn step_inside(&mut self, board: u8) -> Progress
         requires { (1 ≤ board) × (board ≤ most) }
-        ensures answers { result ≡ (inside_step (lockwork Q.Lock Q.Ordered) I.Interpolator.scale (view Q.Lock.state I.Interpolator self.old) board (own (view Q.Lock.state I.Interpolator self.old) board) (own (view Q.Lock.state I.Interpolator self.old) board).stage).tells }
-        ensures leaves { view Q.Lock.state I.Interpolator self.new ≡ (inside_step (lockwork Q.Lock Q.Ordered) I.Interpolator.scale (view Q.Lock.state I.Interpolator self.old) board (own (view Q.Lock.state I.Interpolator self.old) board) (own (view Q.Lock.state I.Interpolator self.old) board).stage).left }
+        ensures answers { result ≡ (inside_step (lockwork Q.Lock Q.Ordered.own) I.Interpolator.scale (view Q.Lock.state I.Interpolator self.old) board (own (view Q.Lock.state I.Interpolator self.old) board) (own (view Q.Lock.state I.Interpolator self.old) board).stage).tells }
+        ensures leaves { view Q.Lock.state I.Interpolator self.new ≡ (inside_step (lockwork Q.Lock Q.Ordered.own) I.Interpolator.scale (view Q.Lock.state I.Interpolator self.old) board (own (view Q.Lock.state I.Interpolator self.old) board) (own (view Q.Lock.state I.Interpolator self.old) board).stage).left }
         ensures panel { self.new.panel ≡ painted self.old.panel (step_reading board (Ok result)) }
         ensures interpolator { putting (own (view Q.Lock.state I.Interpolator self.old) board).stage ≡ false → self.new.interpolator ≡ self.old.interpolator }
     {
@@ -201,8 +201,8 @@ impl<Q: Ordered, I: Interpolator> Analyser<Q, I> {
     }
 
     pub(crate) fn do_step(&mut self, board: u8, bit: bool) -> Result<Progress, Refusal>
-        ensures answers { result ≡ step_answer (lockwork Q.Lock Q.Ordered) I.Interpolator.scale (view Q.Lock.state I.Interpolator self.old) board bit }
-        ensures leaves { view Q.Lock.state I.Interpolator self.new ≡ step_leaves (lockwork Q.Lock Q.Ordered) I.Interpolator.scale (view Q.Lock.state I.Interpolator self.old) board bit }
+        ensures answers { result ≡ step_answer (lockwork Q.Lock Q.Ordered.own) I.Interpolator.scale (view Q.Lock.state I.Interpolator self.old) board bit }
+        ensures leaves { view Q.Lock.state I.Interpolator self.new ≡ step_leaves (lockwork Q.Lock Q.Ordered.own) I.Interpolator.scale (view Q.Lock.state I.Interpolator self.old) board bit }
         ensures panel { self.new.panel ≡ painted self.old.panel (step_reading board result) }
         ensures interpolator { puts (view Q.Lock.state I.Interpolator self.old) board ≡ false → self.new.interpolator ≡ self.old.interpolator }
         ensures kept { is_ok result ≡ false → self.new ≡ self.old }
@@ -219,8 +219,8 @@ impl<Q: Ordered, I: Interpolator> Analyser<Q, I> {
 
     // The board, then its station, then the counts are judged. Whoever waits now stands ahead of the board that asks.
     pub(crate) fn do_ask(&mut self, board: u8, start: u32, stop: u32) -> Result<u32, Refusal>
-        ensures answers { result ≡ ask_answer (lockwork Q.Lock Q.Ordered) I.Interpolator.scale (view Q.Lock.state I.Interpolator self.old) board start stop }
-        ensures leaves { view Q.Lock.state I.Interpolator self.new ≡ ask_leaves (lockwork Q.Lock Q.Ordered) I.Interpolator.scale (view Q.Lock.state I.Interpolator self.old) board start stop result }
+        ensures answers { result ≡ ask_answer (lockwork Q.Lock Q.Ordered.own) I.Interpolator.scale (view Q.Lock.state I.Interpolator self.old) board start stop }
+        ensures leaves { view Q.Lock.state I.Interpolator self.new ≡ ask_leaves (lockwork Q.Lock Q.Ordered.own) I.Interpolator.scale (view Q.Lock.state I.Interpolator self.old) board start stop result }
         ensures panel { self.new.panel ≡ self.old.panel }
         ensures interpolator { self.new.interpolator ≡ self.old.interpolator }
         ensures kept { is_ok result ≡ false → self.new ≡ self.old }
@@ -244,8 +244,8 @@ impl<Q: Ordered, I: Interpolator> Analyser<Q, I> {
 
     // A board that is pulled stands ahead of nobody any more.
     pub(crate) fn do_pull(&mut self, board: u8) -> Result<(), Refusal>
-        ensures answers { result ≡ pull_answer (lockwork Q.Lock Q.Ordered) I.Interpolator.scale (view Q.Lock.state I.Interpolator self.old) board }
-        ensures leaves { view Q.Lock.state I.Interpolator self.new ≡ pull_leaves (lockwork Q.Lock Q.Ordered) I.Interpolator.scale (view Q.Lock.state I.Interpolator self.old) board result }
+        ensures answers { result ≡ pull_answer (lockwork Q.Lock Q.Ordered.own) I.Interpolator.scale (view Q.Lock.state I.Interpolator self.old) board }
+        ensures leaves { view Q.Lock.state I.Interpolator self.new ≡ pull_leaves (lockwork Q.Lock Q.Ordered.own) I.Interpolator.scale (view Q.Lock.state I.Interpolator self.old) board result }
         ensures panel { self.new.panel ≡ self.old.panel }
         ensures interpolator { self.new.interpolator ≡ self.old.interpolator }
         ensures kept { is_ok result ≡ false → self.new ≡ self.old }

@@ -29,8 +29,8 @@ impl<Q: Ordered, I: Interpolator> Analyser<Q, I> {
     fn over(boards: Boards) -> Analyser<Q, I>
         ensures boards { result.boards ≡ boards }
         ensures panel { result.panel ≡ blank }
-        ensures leads { Leads (lockwork Q.Lock Q.Ordered) Q.Lock.state I.Interpolator boards [] result }
-        ensures law { (es : List Event) → Lawful boards.count I.Interpolator.scale (showing (lockwork Q.Lock Q.Ordered) boards.count) (grown (lockwork Q.Lock Q.Ordered) I.Interpolator.scale (new_view (lockwork Q.Lock Q.Ordered) I.Interpolator.scale boards) [] es) }
+        ensures leads { Leads (lockwork Q.Lock Q.Ordered.own) Q.Lock.state I.Interpolator boards [] result }
+        ensures law { (es : List Event) → Lawful boards.count I.Interpolator.scale (showing (lockwork Q.Lock Q.Ordered.own) boards.count) (grown (lockwork Q.Lock Q.Ordered.own) I.Interpolator.scale (new_view (lockwork Q.Lock Q.Ordered.own) I.Interpolator.scale boards) [] es) }
     {
         Analyser {
             boards,
@@ -44,12 +44,12 @@ impl<Q: Ordered, I: Interpolator> Analyser<Q, I> {
     // A board asks for a stay, with its counts, and is told the set of boards ahead of it. Refused are a board that is not there,
     // one that is not out, and a count above full scale, in this order.
     pub fn ask(&mut self, board: u8, start: u32, stop: u32) -> Result<u32, Refusal>
-        ensures answers { result ≡ ask_answer (lockwork Q.Lock Q.Ordered) I.Interpolator.scale (view Q.Lock.state I.Interpolator self.old) board start stop }
-        ensures leaves { view Q.Lock.state I.Interpolator self.new ≡ ask_leaves (lockwork Q.Lock Q.Ordered) I.Interpolator.scale (view Q.Lock.state I.Interpolator self.old) board start stop result }
+        ensures answers { result ≡ ask_answer (lockwork Q.Lock Q.Ordered.own) I.Interpolator.scale (view Q.Lock.state I.Interpolator self.old) board start stop }
+        ensures leaves { view Q.Lock.state I.Interpolator self.new ≡ ask_leaves (lockwork Q.Lock Q.Ordered.own) I.Interpolator.scale (view Q.Lock.state I.Interpolator self.old) board start stop result }
         ensures panel { self.new.panel ≡ self.old.panel }
         ensures interpolator { self.new.interpolator ≡ self.old.interpolator }
         ensures kept { is_ok result ≡ false → self.new ≡ self.old }
-        ensures law { Carries (lockwork Q.Lock Q.Ordered) Q.Lock.state I.Interpolator self.old (Asked board start stop result) self.new }
+        ensures law { Carries (lockwork Q.Lock Q.Ordered.own) Q.Lock.state I.Interpolator self.old (Asked board start stop result) self.new }
     {
         self.do_ask(board, start, stop)
     }
@@ -57,24 +57,24 @@ impl<Q: Ordered, I: Interpolator> Analyser<Q, I> {
     // A board takes a step, with a bit for what it reads in change. At which step a waiting board goes inside, a leaving board comes
     // out and a doorway is passed is the lock's affair: the lock's own rule says it, and the law what holds of it.
     pub fn step(&mut self, board: u8, bit: bool) -> Result<Progress, Refusal>
-        ensures answers { result ≡ step_answer (lockwork Q.Lock Q.Ordered) I.Interpolator.scale (view Q.Lock.state I.Interpolator self.old) board bit }
-        ensures leaves { view Q.Lock.state I.Interpolator self.new ≡ step_leaves (lockwork Q.Lock Q.Ordered) I.Interpolator.scale (view Q.Lock.state I.Interpolator self.old) board bit }
+        ensures answers { result ≡ step_answer (lockwork Q.Lock Q.Ordered.own) I.Interpolator.scale (view Q.Lock.state I.Interpolator self.old) board bit }
+        ensures leaves { view Q.Lock.state I.Interpolator self.new ≡ step_leaves (lockwork Q.Lock Q.Ordered.own) I.Interpolator.scale (view Q.Lock.state I.Interpolator self.old) board bit }
         ensures panel { self.new.panel ≡ painted self.old.panel (step_reading board result) }
         ensures interpolator { puts (view Q.Lock.state I.Interpolator self.old) board ≡ false → self.new.interpolator ≡ self.old.interpolator }
         ensures kept { is_ok result ≡ false → self.new ≡ self.old }
-        ensures law { Carries (lockwork Q.Lock Q.Ordered) Q.Lock.state I.Interpolator self.old (Stepped board bit result) self.new }
+        ensures law { Carries (lockwork Q.Lock Q.Ordered.own) Q.Lock.state I.Interpolator self.old (Stepped board bit result) self.new }
     {
         self.do_step(board, bit)
     }
 
     // Ends a board's stay. Refused are a board that is not there, and one that is out or leaving.
     pub fn pull(&mut self, board: u8) -> Result<(), Refusal>
-        ensures answers { result ≡ pull_answer (lockwork Q.Lock Q.Ordered) I.Interpolator.scale (view Q.Lock.state I.Interpolator self.old) board }
-        ensures leaves { view Q.Lock.state I.Interpolator self.new ≡ pull_leaves (lockwork Q.Lock Q.Ordered) I.Interpolator.scale (view Q.Lock.state I.Interpolator self.old) board result }
+        ensures answers { result ≡ pull_answer (lockwork Q.Lock Q.Ordered.own) I.Interpolator.scale (view Q.Lock.state I.Interpolator self.old) board }
+        ensures leaves { view Q.Lock.state I.Interpolator self.new ≡ pull_leaves (lockwork Q.Lock Q.Ordered.own) I.Interpolator.scale (view Q.Lock.state I.Interpolator self.old) board result }
         ensures panel { self.new.panel ≡ self.old.panel }
         ensures interpolator { self.new.interpolator ≡ self.old.interpolator }
         ensures kept { is_ok result ≡ false → self.new ≡ self.old }
-        ensures law { Carries (lockwork Q.Lock Q.Ordered) Q.Lock.state I.Interpolator self.old (Pulled board result) self.new }
+        ensures law { Carries (lockwork Q.Lock Q.Ordered.own) Q.Lock.state I.Interpolator self.old (Pulled board result) self.new }
     {
         self.do_pull(board)
     }
@@ -82,7 +82,7 @@ impl<Q: Ordered, I: Interpolator> Analyser<Q, I> {
     // Tells a board's station, and changes nothing.
     pub fn station(&self, board: u8) -> Result<Standing, Refusal>
         ensures tells { result ≡ station_told (view Q.Lock.state I.Interpolator self.now) board }
-        ensures law { Tells (lockwork Q.Lock Q.Ordered) Q.Lock.state I.Interpolator self.now board (λ _ h. station h board) result }
+        ensures law { Tells (lockwork Q.Lock Q.Ordered.own) Q.Lock.state I.Interpolator self.now board (λ _ h. station h board) result }
     {
         self.standing(board)
     }
@@ -90,7 +90,7 @@ impl<Q: Ordered, I: Interpolator> Analyser<Q, I> {
     // Tells the set of boards ahead of a board, and changes nothing: bit j - 1 stands for board j.
     pub fn ahead(&self, board: u8) -> Result<u32, Refusal>
         ensures tells { result ≡ ahead_told (view Q.Lock.state I.Interpolator self.now) board }
-        ensures law { Tells (lockwork Q.Lock Q.Ordered) Q.Lock.state I.Interpolator self.now board (λ n h. set_ahead n h board) result }
+        ensures law { Tells (lockwork Q.Lock Q.Ordered.own) Q.Lock.state I.Interpolator self.now board (λ n h. set_ahead n h board) result }
     {
         self.set_ahead(board)
     }
@@ -114,7 +114,7 @@ impl<Q: Ordered, I: Interpolator> Analyser<Q, I> {
     // The number of boards.
     pub fn boards(&self) -> u8
         ensures tells { result ≡ self.now.boards.count }
-        ensures law { (n : Boards) (h : History) → Leads (lockwork Q.Lock Q.Ordered) Q.Lock.state I.Interpolator n h self.now → result ≡ n.count }
+        ensures law { (n : Boards) (h : History) → Leads (lockwork Q.Lock Q.Ordered.own) Q.Lock.state I.Interpolator n h self.now → result ≡ n.count }
     {
         self.boards.count()
     }

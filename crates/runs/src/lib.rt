@@ -33,10 +33,10 @@ fn shown(board: u8, res: Result<Progress, Refusal>) -> Option<Reading>
 
 // One event: the call that it names is made.
 fn handle<Q: Ordered, I: Interpolator>(analyser: &mut Analyser<Q, I>, event: Event) -> Reply
-    ensures answer { result.answer ≡ answer_of (reply (lockwork Q.Lock Q.Ordered) I.Interpolator.scale (view Q.Lock.state I.Interpolator analyser.old) event) }
-    ensures shown { result.shown ≡ reading_of (reply (lockwork Q.Lock Q.Ordered) I.Interpolator.scale (view Q.Lock.state I.Interpolator analyser.old) event) }
-    ensures leaves { view Q.Lock.state I.Interpolator analyser.new ≡ next (lockwork Q.Lock Q.Ordered) I.Interpolator.scale (view Q.Lock.state I.Interpolator analyser.old) event }
-    ensures panel { analyser.new.panel ≡ painted analyser.old.panel (reading_of (reply (lockwork Q.Lock Q.Ordered) I.Interpolator.scale (view Q.Lock.state I.Interpolator analyser.old) event)) }
+    ensures answer { result.answer ≡ answer_of (reply (lockwork Q.Lock Q.Ordered.own) I.Interpolator.scale (view Q.Lock.state I.Interpolator analyser.old) event) }
+    ensures shown { result.shown ≡ reading_of (reply (lockwork Q.Lock Q.Ordered.own) I.Interpolator.scale (view Q.Lock.state I.Interpolator analyser.old) event) }
+    ensures leaves { view Q.Lock.state I.Interpolator analyser.new ≡ next (lockwork Q.Lock Q.Ordered.own) I.Interpolator.scale (view Q.Lock.state I.Interpolator analyser.old) event }
+    ensures panel { analyser.new.panel ≡ painted analyser.old.panel (reading_of (reply (lockwork Q.Lock Q.Ordered.own) I.Interpolator.scale (view Q.Lock.state I.Interpolator analyser.old) event)) }
 {
     match event {
         Event::Ask { board, start, stop } => {
@@ -72,15 +72,15 @@ pub fn run<Q: Ordered, I: Interpolator>(
     readings: &mut Filling<Stamped<Reading>>,
 ) -> Result<(), filling::Refusal>
     ensures result { result ≡ run_answer (free_places answers.old.places.now answers.old.len) (free_places readings.old.places.now readings.old.len) (length events.now) }
-    ensures leaves { MatchResult result (λ _. view Q.Lock.state I.Interpolator analyser.new ≡ after_all (lockwork Q.Lock Q.Ordered) I.Interpolator.scale (view Q.Lock.state I.Interpolator analyser.old) events.now) (λ _. analyser.new ≡ analyser.old) }
-    ensures panel { MatchResult result (λ _. analyser.new.panel ≡ painted_all analyser.old.panel (replies (lockwork Q.Lock Q.Ordered) I.Interpolator.scale (view Q.Lock.state I.Interpolator analyser.old) events.now)) (λ _. analyser.new.panel ≡ analyser.old.panel) }
-    ensures answers { MatchResult result (λ _. answers.new.places.now ≡ filled answers.old.places.now answers.old.len (numbered 0 (map answer_of (replies (lockwork Q.Lock Q.Ordered) I.Interpolator.scale (view Q.Lock.state I.Interpolator analyser.old) events.now)))) (λ _. answers.new ≡ answers.old) }
+    ensures leaves { MatchResult result (λ _. view Q.Lock.state I.Interpolator analyser.new ≡ after_all (lockwork Q.Lock Q.Ordered.own) I.Interpolator.scale (view Q.Lock.state I.Interpolator analyser.old) events.now) (λ _. analyser.new ≡ analyser.old) }
+    ensures panel { MatchResult result (λ _. analyser.new.panel ≡ painted_all analyser.old.panel (replies (lockwork Q.Lock Q.Ordered.own) I.Interpolator.scale (view Q.Lock.state I.Interpolator analyser.old) events.now)) (λ _. analyser.new.panel ≡ analyser.old.panel) }
+    ensures answers { MatchResult result (λ _. answers.new.places.now ≡ filled answers.old.places.now answers.old.len (numbered 0 (map answer_of (replies (lockwork Q.Lock Q.Ordered.own) I.Interpolator.scale (view Q.Lock.state I.Interpolator analyser.old) events.now)))) (λ _. answers.new ≡ answers.old) }
     ensures answers_len { MatchResult result (λ _. answers.new.len ≡ answers.old.len + length events.now) (λ _. answers.new.len ≡ answers.old.len) }
     ensures answers_lender { answers.new.places.ghost_name ≡ answers.old.places.ghost_name }
-    ensures readings { MatchResult result (λ _. readings.new.places.now ≡ filled readings.old.places.now readings.old.len (readings-in 0 (replies (lockwork Q.Lock Q.Ordered) I.Interpolator.scale (view Q.Lock.state I.Interpolator analyser.old) events.now))) (λ _. readings.new ≡ readings.old) }
-    ensures readings_len { MatchResult result (λ _. readings.new.len ≡ readings.old.len + length (readings-in 0 (replies (lockwork Q.Lock Q.Ordered) I.Interpolator.scale (view Q.Lock.state I.Interpolator analyser.old) events.now))) (λ _. readings.new.len ≡ readings.old.len) }
+    ensures readings { MatchResult result (λ _. readings.new.places.now ≡ filled readings.old.places.now readings.old.len (readings-in 0 (replies (lockwork Q.Lock Q.Ordered.own) I.Interpolator.scale (view Q.Lock.state I.Interpolator analyser.old) events.now))) (λ _. readings.new ≡ readings.old) }
+    ensures readings_len { MatchResult result (λ _. readings.new.len ≡ readings.old.len + length (readings-in 0 (replies (lockwork Q.Lock Q.Ordered.own) I.Interpolator.scale (view Q.Lock.state I.Interpolator analyser.old) events.now))) (λ _. readings.new.len ≡ readings.old.len) }
     ensures readings_lender { readings.new.places.ghost_name ≡ readings.old.places.ghost_name }
-    ensures law { OnOk result (Ran (lockwork Q.Lock Q.Ordered) Q.Lock.state I.Interpolator analyser.old events.now analyser.new) }
+    ensures law { OnOk result (Ran (lockwork Q.Lock Q.Ordered.own) Q.Lock.state I.Interpolator analyser.old events.now analyser.new) }
 {
     if answers.free() < events.len() || readings.free() < events.len() {
         return Err(filling::Refusal::NoFreePlace);

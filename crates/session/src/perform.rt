@@ -9,7 +9,7 @@ use service::{Answer, Event};
 
 // The answer is that of one call with this event, which carries the law of the analyser on.
 pub fn perform<Q: Ordered, I: Interpolator>(analyser: &mut Analyser<Q, I>, event: Event) -> Answer
-    ensures { Performed (lockwork Q.Lock Q.Ordered) Q.Lock.state I.Interpolator analyser.old event result analyser.new }
+    ensures { Performed (lockwork Q.Lock Q.Ordered.own) Q.Lock.state I.Interpolator analyser.old event result analyser.new }
 {
     match event {
         Event::Ask { board, start, stop } => {

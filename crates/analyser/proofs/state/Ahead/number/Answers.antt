@@ -15,13 +15,13 @@ bits_more ms j =
     let same : suc j - 1 ≡ j = omega arith in
     ap (bits (marked ms)) (add-one j) ∙ ap (λ i. bits (marked ms) j + cond (get_or ms i false) (2 ^ j) 0) same
 
-pub overflow-add-number : goal.overflow-add-number
-overflow-add-number c =
+pub overflow_add-number : goal.overflow_add-number
+overflow_add-number c =
     let inv = c.loop-j.invariant in let few = c.args.boards.few in
     let s = small c.loop-j.j (omega arith) in omega (arith, inv.1, inv.2)
 
-pub overflow-mul-bit : goal.overflow-mul-bit
-overflow-mul-bit c =
+pub overflow_mul-bit : goal.overflow_mul-bit
+overflow_mul-bit c =
     let inv = c.loop-j.invariant in let few = c.args.boards.few in
     let s = small c.loop-j.j (omega arith) in omega (arith, inv.1)
 

@@ -8,7 +8,7 @@ returns g c =
     let M = g.met.Q.Lock in let O = g.met.Q.Ordered in
     let K = keeps g.Q.Lock g.Q.Ordered M.begins M.moves M.excludes M.enters O.tries O.doorways O.order in
     let W = lockwork g.Q.Lock g.Q.Ordered in let P = g.I.Interpolator in
-    let d = c.do-pull in record {
+    let d = c.do_pull in record {
       answers = d.ensures.answers;
       leaves = d.ensures.leaves;
       panel = d.ensures.panel;
