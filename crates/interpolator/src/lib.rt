@@ -54,12 +54,12 @@ pub trait Interpolator: Sized {
     // Tells the start, and changes nothing.
     fn take_start(&self) -> u32
         ensures tells { result ≡ start self.now }
-        ensures kept { self.now ≡ self.now };
+        ensures kept { self.exit.now ≡ self.entry.now };
 
     // Tells the stop, and changes nothing.
     fn take_stop(&self) -> u32
         ensures tells { result ≡ stop self.now }
-        ensures kept { self.now ≡ self.now };
+        ensures kept { self.exit.now ≡ self.entry.now };
 
     ghost bounded: { scale ≤ 4294967295 };
 }

@@ -12,7 +12,7 @@ use Rattle.analyser.proofs.Carried.{keeps}
 use Rattle.runs.proofs.Ran.{run_carries}
 use Rattle.runs.proofs.Turns.{enough, pushed, none_free, after_again, panel_again, answers_again, readings_none, readings_some, filled_one}
 use Rattle.runs.proofs.run.Goals as goal
-use Rattle.runs.proofs.run.Goals.{in-Some+in_ok-push-2, in-default}
+use Rattle.runs.proofs.run.Goals.{in-Some+in_ok-push-2, in_default}
 
 pub loop-place-preserved : goal.loop-place-preserved
 loop-place-preserved g c =
@@ -54,8 +54,8 @@ loop-place-preserved g c =
             l9,
             ap (λ s. s.places.ghost_name) e ∙ put₂.lender ∙ inv.10,
           )
-      | in-default w ↦
-          let none = readings_none W full v v' xs i (Ask 0 0 0) lt did.leaves o did.shown w.in-default.is in
+      | in_default w ↦
+          let none = readings_none W full v v' xs i (Ask 0 0 0) lt did.leaves o did.shown w.in_default.is in
           let e = w.readings-is in (
             l0,
             l1,

@@ -14,7 +14,7 @@ use Rattle.runs.proofs.serve.Goals as goal
 pub returns : goal.returns
 returns g c =
     let W = queued g.L.Lock in let full = g.I.Interpolator.scale in let n = c.args.list.boards in let es = c.args.events.now in
-    let made = c.put-into-service-analyser.ensures in let ran = c.in_ok-run.ensures in
+    let made = c.put_into_service-analyser.ensures in let ran = c.in_ok-run.ensures in
     let v = new_view W full n in let calls = replies W full v es in
     let comes = made.leads.comes in
     let A = c.args.answers.now in let R = c.args.readings.now in
@@ -26,13 +26,13 @@ returns g c =
         events = replies_events W full v es;
         answers = ran.answers ∙ ap (λ w. filled A.places.now A.len (numbered 0 (map answer_of (replies W full w es)))) comes;
         shown = ran.readings ∙ ap (λ w. filled R.places.now R.len (readings 0 (replies W full w es))) comes;
-        panel = ran.panel ∙ ap (λ w. painted_all c.put-into-service-analyser.result.panel (replies W full w es)) comes ∙ ap (λ p. painted_all p calls) made.panel
+        panel = ran.panel ∙ ap (λ w. painted_all c.put_into_service-analyser.result.panel (replies W full w es)) comes ∙ ap (λ p. painted_all p calls) made.panel
             ∙ sym (grown_panel W full v [] es) ∙ ap panel_of whole;
         lawful = subst (Lawful n.count full _) whole (made.law es);
       };
       leads = (ran.law n [] made.leads).0;
       answers = λ not_so. absurd (true≢false not_so);
-      answers_lender = ran.answers-lender;
+      answers_lender = ran.answers_lender;
       readings = λ not_so. absurd (true≢false not_so);
-      readings_lender = ran.readings-lender;
+      readings_lender = ran.readings_lender;
     }
