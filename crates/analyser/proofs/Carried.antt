@@ -1,5 +1,5 @@
 -- Each call carries the law on.
-use Rattle.std.proofs.Common.{◌≡◌, ℕ, ◌+◌, ◌-◌, ◌*◌, Bool, cond, List, [], ◌∷◌, map, replicate, Ok, Err, Result, sym, refl, ap, ◌∙◌, subst, arith}
+use Rattle.std.proofs.Common.{◌≡◌, ℕ, ◌+◌, ◌-◌, ◌*◌, Bool, List, [], ◌∷◌, map, replicate, Ok, Err, Result, refl, ap, ◌∙◌, arith}
 use Rattle.interpolator.specs.declared.Interpolator as interpolator
 use Rattle.lock.specs.declared.boards.Boards.{Boards}
 use Rattle.lock.specs.declared.Lock as lock
@@ -7,16 +7,15 @@ use Rattle.lock.specs.declared.Ordered as ordered
 use Rattle.lock.specs.Order.{InOrder, WaitsTrying, Doorways}
 use Rattle.lock.specs.Runs.{AllOut, CallsMove, Exclusive, EntersWithin}
 use Rattle.lock.specs.Most.{most}
-use Rattle.lock.specs.Stations.{among}
 use Rattle.panel.specs.declared.display.Panel.{Panel}
 use Rattle.service.specs.declared.event.Event.{Event}
 use Rattle.service.specs.declared.progress.Progress.{Progress}
 use Rattle.service.specs.declared.refusal.Refusal.{Refusal}
 use Rattle.service.specs.declared.refusal.Refusal.TheVariants.{NoSuchBoard}
-use Rattle.service.specs.History.{Entry, Asked, Stepped, Pulled, History, station, set_ahead, step_reading, painted, panel_of}
+use Rattle.service.specs.History.{Asked, Stepped, Pulled, History, station, set_ahead, step_reading, painted}
 use Rattle.service.specs.Law.{Lawful}
 use Rattle.service.specs.Records.{blank}
-use Rattle.service.specs.Rule.{Lockwork, lockwork, View, new_view, station_told, ahead_told, ask_answer, ask_leaves, step_answer, step_leaves, pull_answer, pull_leaves, trace, Given}
+use Rattle.service.specs.Rule.{Lockwork, lockwork, View, new_view, station_told, ahead_told, ask_answer, ask_leaves, step_answer, step_leaves, pull_answer, pull_leaves, trace}
 use Rattle.service.specs.Runs.{grown}
 use Rattle.service.proofs.Reached.{Keeps}
 use Rattle.service.proofs.Answered.{agrees, by_history}

@@ -1,5 +1,5 @@
 -- The sets ahead, as the analyser keeps them.
-use Rattle.std.specs.Prelude.{ℕ, ◌-◌, false, set, replicate, slice_set}
+use Rattle.std.specs.Prelude.{ℕ, ◌-◌, false, replicate, slice_set}
 use Rattle.lock.specs.Most.{most}
 use Rattle.analyser.specs.declared.state.Ahead.{Ahead}
 

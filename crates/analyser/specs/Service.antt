@@ -1,22 +1,20 @@
 -- An analyser in service, by what matters of it, and the law that each call carries on.
-use Rattle.std.specs.Prelude.{◌≡◌, ℕ, ◌+◌, ◌-◌, ◌*◌, Bool, true, false, cond, ◌&&◌, List, [], ◌∷◌, ◌++◌, map, Ok, Err, Result}
+use Rattle.std.specs.Prelude.{◌≡◌, ℕ, ◌+◌, ◌-◌, ◌*◌, Bool, true, false, cond, ◌&&◌, ◌∷◌, map, Ok, Err, Result}
 use Rattle.interpolator.specs.declared.Interpolator as interpolator
 use Rattle.lock.specs.declared.Lock as lock
 use Rattle.lock.specs.declared.boards.Boards.{Boards}
 use Rattle.lock.specs.Stations.{among}
 use Rattle.queue.specs.declared.state.Queue.{Queue}
 use Rattle.queue.specs.Rule as queue
-use Rattle.service.specs.declared.record.Record.{Record}
 use Rattle.service.specs.declared.record.Stage.{Stage}
 use Rattle.service.specs.declared.record.Stage.TheVariants.{Arrived, StartPut, StopPut, StartTaken, StopTaken}
 use Rattle.service.specs.declared.refusal.Refusal.{Refusal}
 use Rattle.service.specs.declared.refusal.Refusal.TheVariants.{NoSuchBoard}
 use Rattle.service.specs.declared.standing.Standing.{Standing}
 use Rattle.service.specs.declared.standing.Standing.TheVariants.{Out, Doorway, Waiting, Inside, Leaving}
-use Rattle.service.specs.History.{Entry, History, station, set_ahead, panel_of}
+use Rattle.service.specs.History.{Entry, History, panel_of}
 use Rattle.service.specs.Law.{Lawful}
 use Rattle.service.specs.Rule.{Lockwork, View, own, there, trace, Given}
-use Rattle.analyser.specs.declared.state.Ahead.{Ahead}
 use Rattle.analyser.specs.declared.state.Analyser.{Analyser}
 
 module _ {Q S I : Type 0} (state : Q → S) (P : interpolator.Ghosts I) where

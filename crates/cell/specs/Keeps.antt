@@ -1,5 +1,5 @@
 -- The cell lock keeps the meaning of a lock.
-use Rattle.std.specs.Prelude.{◌≡◌, ℕ, ◌+◌, ◌-◌, ◌≤◌, Bool, true, false, cond, ◌⊎◌, List, length, Some, None, Option, ◌≢◌, refl}
+use Rattle.std.specs.Prelude.{◌≡◌, ℕ, ◌-◌, ◌≤◌, Bool, true, false, cond, ◌⊎◌, length, Some, None, Option, ◌≢◌, refl}
 use Rattle.std.proofs.Common.{sym, ap, subst, ◌∙◌, inl, inr, arith}
 use Rattle.std.proofs.lemmas.Bool.{cases_eq, cases_Bool, eqb-true, eq-eqb}
 use Rattle.std.proofs.lemmas.List.{set-get_or, take-replicate}
@@ -9,11 +9,11 @@ use Rattle.lock.specs.declared.station.Call.TheVariants.{Start, Step, Leave, Pul
 use Rattle.lock.specs.declared.station.Station.{Station}
 use Rattle.lock.specs.declared.station.Station.TheVariants.{Out, Trying, Inside, Leaving}
 use Rattle.lock.specs.Most.{most}
-use Rattle.lock.specs.Stations.{at, with, accepted, Stands, StepsTo, Moves}
+use Rattle.lock.specs.Stations.{at, with, accepted, Stands, Moves}
 use Rattle.lock.specs.Runs.{OthersOut, MovesAt}
-use Rattle.lock.proofs.Stations.{out≢trying, out≢inside, out≢leaving, trying≢inside, trying≢leaving, inside≢leaving, true≢false, start_accepted, leave_accepted, board_there, accepted_step, stands_with, stands_other, other_stands, all_out_at}
+use Rattle.lock.proofs.Stations.{out≢inside, out≢leaving, trying≢inside, trying≢leaving, inside≢leaving, true≢false, start_accepted, board_there, accepted_step, stands_with, stands_other, other_stands, all_out_at}
 use Rattle.lock.proofs.Tables.{listed_most, listed_written}
-use Rattle.lock.proofs.Local.{Calls, Local}
+use Rattle.lock.proofs.Local.{Local}
 use Rattle.cell.specs.declared.plane.Backplane.{Backplane}
 use Rattle.cell.specs.Rule.{fresh, shown, put, with_cell, has, tries, step_at, done, after, Held}
 

@@ -1,5 +1,5 @@
 -- What a lock shows of each single call, and that it then keeps the laws of a lock over whole runs.
-use Rattle.std.proofs.Common.{◌≡◌, ℕ, ◌+◌, ◌-◌, ◌≤◌, Bool, true, false, ◌⊎◌, List, [], ◌∷◌, length, replicate, is_ok, Result, sym, refl, ap, ◌∙◌, subst, inl, inr, arith}
+use Rattle.std.proofs.Common.{◌≡◌, ℕ, ◌+◌, ◌-◌, ◌≤◌, Bool, true, false, ◌⊎◌, List, length, is_ok, Result, sym, refl, ap, ◌∙◌, subst, inl, inr, arith}
 use Rattle.std.proofs.lemmas.Bool.{cases_eq, cases_Bool}
 use Rattle.std.proofs.lemmas.List.{length-set}
 use Rattle.lock.specs.declared.boards.Boards.{Boards}
@@ -8,8 +8,8 @@ use Rattle.lock.specs.declared.station.Call.TheVariants.{Start, Step, Leave, Pul
 use Rattle.lock.specs.declared.station.Refusal.{Refusal}
 use Rattle.lock.specs.declared.station.Station.{Station}
 use Rattle.lock.specs.declared.station.Station.TheVariants.{Out, Trying, Inside, Leaving}
-use Rattle.lock.specs.Stations.{board, at, with, answer, accepted, Stands, AtMostOne, StepsTo, Moves}
-use Rattle.lock.specs.Runs.{own, steps, Spares, OthersOut, run, Sometime, Each, AllOut, MovesAt, CallsMove, Exclusive, EntersWithin, OutWithin}
+use Rattle.lock.specs.Stations.{board, at, with, answer, accepted, Stands, AtMostOne, Moves}
+use Rattle.lock.specs.Runs.{own, Spares, OthersOut, run, AllOut, MovesAt, CallsMove, Exclusive, EntersWithin, OutWithin}
 use Rattle.lock.proofs.Stations.{out≢trying, out≢inside, out≢leaving, trying≢inside, trying≢leaving, inside≢leaving, start_accepted, leave_accepted, pull_accepted, step_accepted, accepted_step, board_there, stands_with, other_with, stands_other, still_out, all_out_at, moved_to, one_inside, own_same, own_other, no_own}
 use Rattle.lock.proofs.Runs.{always, each_any, arrives}
 

@@ -1,5 +1,5 @@
 -- Facts on the stations of N boards and one call.
-use Rattle.std.proofs.Common.{◌≡◌, ℕ, zero, suc, ◌+◌, ◌-◌, ◌<◌, ◌≤◌, Bool, true, false, cond, ◌&&◌, eqb, leb, ◌≢◌, ◌⊎◌, List, [], ◌∷◌, length, get_or, set, replicate, is_ok, Ok, Err, Result, sym, refl, ap, ◌∙◌, subst, inl, inr, arith}
+use Rattle.std.proofs.Common.{◌≡◌, ℕ, zero, suc, ◌-◌, ◌<◌, ◌≤◌, Bool, true, false, cond, eqb, leb, ◌≢◌, ◌⊎◌, List, length, get_or, replicate, is_ok, Ok, Err, Result, sym, refl, ap, ◌∙◌, subst, inl, inr, arith}
 use Rattle.std.proofs.lemmas.Bool.{cases_eq, and_parts, and_from, and_left, and_right, leb-true, le-leb, lt-leb, eq-eqb, ne_eqb}
 use Rattle.std.proofs.lemmas.List.{length-set, get_or-set_same, get_or-set_other}
 use Rattle.lock.specs.declared.station.Call.{Call}
@@ -8,7 +8,7 @@ use Rattle.lock.specs.declared.station.Refusal.{Refusal}
 use Rattle.lock.specs.declared.station.Refusal.TheVariants.{NoSuchBoard}
 use Rattle.lock.specs.declared.station.Station.{Station}
 use Rattle.lock.specs.declared.station.Station.TheVariants.{Out, Trying, Inside, Leaving}
-use Rattle.lock.specs.Stations.{board, among, at, with, told, start_at, leave_at, pull_at, answer, accepted, Stands, NoneElse, AtMostOne, StepsTo, Moves}
+use Rattle.lock.specs.Stations.{board, among, at, with, told, start_at, leave_at, pull_at, accepted, Stands, NoneElse, AtMostOne, Moves}
 use Rattle.lock.specs.Runs.{own, OthersOut}
 
 pub out≢trying : Out ≡ Trying → ⊥

@@ -1,5 +1,5 @@
 -- What the records of boards 1 to N have to do with the whole table.
-use Rattle.std.proofs.Common.{◌≡◌, ℕ, ◌-◌, ◌<◌, ◌≤◌, Bool, true, false, cond, map, length, get_or, take, set, Ok, Err, Result, refl, ap, ◌∙◌, arith}
+use Rattle.std.proofs.Common.{◌≡◌, ℕ, ◌-◌, ◌<◌, ◌≤◌, Bool, true, false, cond, map, length, get_or, set, Ok, Err, Result, refl, ap, ◌∙◌, arith}
 use lib.Seq.{take-set-lt}
 use Rattle.std.proofs.lemmas.List.{length-set, length-take, length-take-le, length-map, get_or-take, get_or-map, get_or_default, get_or-set_same, get_or-set_other}
 use Rattle.lock.specs.declared.station.Refusal.{Refusal}

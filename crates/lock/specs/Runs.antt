@@ -1,5 +1,5 @@
 -- The laws of a lock, over every list of calls on a new one, refused calls included.
-use Rattle.std.specs.Prelude.{◌≡◌, ℕ, ◌+◌, ◌≤◌, Bool, true, false, cond, ◌⊎◌, List, [], ◌∷◌, length, replicate, ◌==◌, ◌≢◌}
+use Rattle.std.specs.Prelude.{◌≡◌, ℕ, ◌+◌, ◌≤◌, true, false, cond, ◌⊎◌, List, [], ◌∷◌, length, replicate, ◌==◌, ◌≢◌}
 use Rattle.lock.specs.declared.boards.Boards.{Boards}
 use Rattle.lock.specs.declared.station.Call.{Call}
 use Rattle.lock.specs.declared.station.Call.TheVariants.{Start, Step, Leave, Pull}

@@ -1,5 +1,5 @@
 -- The rules of a lock on the stations of its boards: what each call answers, and whom it moves.
-use Rattle.std.specs.Prelude.{◌≡◌, ℕ, ◌-◌, ◌≤◌, Bool, true, false, cond, ◌&&◌, ◌⊎◌, List, length, is_ok, Some, None, Ok, Err, Option, Result, ◌≢◌, nat_le, slice_index_or, slice_set}
+use Rattle.std.specs.Prelude.{◌≡◌, ℕ, ◌-◌, ◌≤◌, Bool, cond, ◌&&◌, ◌⊎◌, List, length, is_ok, Some, None, Ok, Err, Option, Result, ◌≢◌, nat_le, slice_index_or, slice_set}
 use Rattle.lock.specs.declared.station.Call.{Call}
 use Rattle.lock.specs.declared.station.Call.TheVariants.{Start, Step, Leave, Pull}
 use Rattle.lock.specs.declared.station.Refusal.{Refusal}

@@ -17,7 +17,7 @@ use Rattle.one_bit.specs.Rule.{high, fresh, shown, seat, flag_told, after}
 use Rattle.one_bit.specs.Sound.{fits, Raised, Fits, Apart}
 use Rattle.one_bit.specs.Seats.{from_shown}
 use Rattle.one_bit.specs.Steps.{never}
-use Rattle.one_bit.specs.Keeps.{Sound, after_sound, moves_at, raised}
+use Rattle.one_bit.specs.Keeps.{Sound, after_sound, moves_at}
 
 pub still_sound : (l : OneBit) (m : Lines) (c : Call) → m ≡ after l.lines c → Sound m
 still_sound l m c leaves = subst Sound (sym leaves) (after_sound l.lines c (l.fits, l.apart))

@@ -1,27 +1,26 @@
 -- Boards in the table: what is there, what a call writes, and what it leaves alone.
-use Rattle.std.specs.Prelude.{◌≡◌, ℕ, ◌+◌, ◌-◌, ◌<◌, ◌≤◌, Bool, true, false, cond, ◌≢◌, ◌⊎◌, List, map, length, get_or, Ok, Err, Result, slice_index_or, slice_set, refl}
-use Rattle.std.proofs.Common.{sym, ap, subst, ◌∙◌, inl, inr, arith}
-use Rattle.std.proofs.lemmas.Bool.{cases_Bool, cases_eq}
+use Rattle.std.specs.Prelude.{◌≡◌, ℕ, ◌-◌, ◌<◌, ◌≤◌, true, false, cond, ◌≢◌, map, length, get_or, Ok, Err, slice_index_or, slice_set, refl}
+use Rattle.std.proofs.Common.{sym, ap, ◌∙◌, inl, inr, arith}
+use Rattle.std.proofs.lemmas.Bool.{cases_Bool}
 use Rattle.std.proofs.lemmas.List.{length-set, length-map, get_or-map, get_or-set_same, get_or-set_other, map-set}
 use Rattle.line.specs.declared.Level.TheVariants as to
 use Rattle.line.specs.declared.Line.TheVariants.{Low}
 use Rattle.line.specs.Rule.{begun}
 use Rattle.lock.specs.declared.station.Call.{Call}
 use Rattle.lock.specs.declared.station.Call.TheVariants.{Start, Step, Leave, Pull}
-use Rattle.lock.specs.declared.station.Refusal.{Refusal}
 use Rattle.lock.specs.declared.station.Refusal.TheVariants.{NoSuchBoard}
 use Rattle.lock.specs.declared.station.Station.{Station}
 use Rattle.lock.specs.declared.station.Station.TheVariants as at
 use Rattle.lock.specs.Stations.{among, accepted, Stands}
 use Rattle.lock.specs.Stations as stations
-use Rattle.lock.specs.Tables.{listed, kept_for, asked, written}
+use Rattle.lock.specs.Tables.{listed, kept_for}
 use Rattle.lock.proofs.Stations.{among_from, from_among, board_there}
 use Rattle.lock.proofs.Tables.{listed_written}
 use Rattle.one_bit.specs.declared.lines.Board.{Board}
 use Rattle.one_bit.specs.declared.lines.Lines.{Lines}
 use Rattle.one_bit.specs.declared.lines.Place.TheVariants.{Out, Raising, Leaving}
 use Rattle.one_bit.specs.Sound.{OwnFlag}
-use Rattle.one_bit.specs.Rule.{board, station, shown, there, seat, put, step_of, done, after}
+use Rattle.one_bit.specs.Rule.{board, station, shown, seat, put, step_of, done, after}
 
 -- board b is one of those in the table
 abbrev pub There : Lines → ℕ → Type 0

@@ -1,6 +1,6 @@
 -- One step of one board: what its place and flag become.
-use Rattle.std.specs.Prelude.{◌≡◌, ℕ, suc, ◌+◌, ◌-◌, ◌<◌, ◌≤◌, Bool, true, false, cond, not, ◌&&◌, ◌||◌, ◌⊎◌, Some, None, Option, ◌≢◌, nat_lt, refl}
-use Rattle.std.proofs.Common.{sym, ap, subst, ◌∙◌, inl, inr, arith}
+use Rattle.std.specs.Prelude.{◌≡◌, ℕ, ◌+◌, ◌-◌, ◌<◌, ◌≤◌, Bool, true, false, cond, ◌⊎◌, Some, None, Option, ◌≢◌, nat_lt, refl}
+use Rattle.std.proofs.Common.{sym, inl, inr, arith}
 use Rattle.std.proofs.lemmas.Bool.{cases_lt, ltb-true, ltb-false, lt-ltb, ne_eqb}
 use Rattle.line.specs.declared.Level.{Level}
 use Rattle.line.specs.declared.Level.TheVariants as to
@@ -12,10 +12,9 @@ use Rattle.lock.specs.declared.station.Station.TheVariants as at
 use Rattle.lock.specs.Others.{other_after}
 use Rattle.lock.proofs.Others.{NextOther, Found, other_found}
 use Rattle.lock.proofs.Stations.{out≢trying, trying≢inside, trying≢leaving, true≢false}
-use Rattle.one_bit.specs.declared.lines.Board.{Board}
 use Rattle.one_bit.specs.declared.lines.Place.{Place}
 use Rattle.one_bit.specs.declared.lines.Place.TheVariants.{Out, Raising, Reading, Lowering, Awaiting, Inside, Leaving}
-use Rattle.one_bit.specs.Rule.{high, board, station, reads, onward, read_on, wait_on, changed, lowered, stepped}
+use Rattle.one_bit.specs.Rule.{high, board, station, reads, onward, lowered, stepped}
 use Rattle.one_bit.specs.Sound.{fits, passed}
 
 -- a test that came out false proves anything where it is said to be true

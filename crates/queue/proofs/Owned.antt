@@ -1,5 +1,5 @@
 -- A call moves no line of another board, and no board has two z lines in change.
-use Rattle.std.proofs.Common.{◌≡◌, ℕ, ◌-◌, ◌≤◌, Bool, true, false, cond, ◌⊎◌, List, length, sym, refl, ap, ◌∙◌, subst, inl, inr, arith}
+use Rattle.std.proofs.Common.{◌≡◌, false, List, length, sym, ap, ◌∙◌, inl, inr, arith}
 use Rattle.std.proofs.lemmas.Bool.{cases_Bool}
 use Rattle.line.specs.declared.Line.TheVariants.{Low}
 use Rattle.line.specs.Rule.{moving}
@@ -15,8 +15,7 @@ use Rattle.lock.proofs.Local.{reached}
 use Rattle.queue.specs.declared.state.Phase.TheVariants.{Out}
 use Rattle.queue.specs.declared.state.Queue.{Queue}
 use Rattle.queue.specs.Lines.{OneMoves, OwnLines, OneInChange}
-use Rattle.queue.specs.Rule.{door, none, door_there, row_there, low_row, z_of, door_at, row_at, next_door, next_row, shown, new_queue, queue_after}
-use Rattle.queue.specs.Shown.{There}
+use Rattle.queue.specs.Rule.{door, none, door_there, low_row, z_of, door_at, row_at, next_door, shown, new_queue, queue_after}
 use Rattle.queue.specs.Moves.{call_there, took, stayed}
 use Rattle.queue.specs.Keeps.{Good, count_doors, count_rows, calls, row_other, low_rests}
 

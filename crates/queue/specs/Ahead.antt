@@ -1,5 +1,5 @@
 -- While a board stands ahead of another, that one does not go inside; and nobody can hold a board in its doorway.
-use Rattle.std.specs.Prelude.{◌≡◌, ℕ, zero, suc, ◌+◌, ◌-◌, ◌*◌, ◌<◌, ◌≤◌, Bool, true, false, cond, not, ◌&&◌, ◌||◌, ◌⊎◌, List, [], ◌∷◌, ◌++◌, length, replicate, Some, None, Option, ◌≢◌, refl}
+use Rattle.std.specs.Prelude.{◌≡◌, ℕ, ◌+◌, ◌-◌, ◌*◌, ◌≤◌, Bool, true, false, cond, ◌&&◌, ◌⊎◌, List, [], ◌∷◌, length, Some, None, Option, ◌≢◌, refl}
 use Rattle.std.proofs.Common.{sym, ap, subst, ◌∙◌, inl, inr, arith}
 use Rattle.std.proofs.lemmas.Bool.{cases_eq, cases_Bool, and_parts}
 use Rattle.std.proofs.lemmas.List.{length-set, length-replicate}
@@ -16,25 +16,25 @@ use Rattle.lock.specs.declared.station.Station.TheVariants as at
 use Rattle.lock.specs.Most.{most}
 use Rattle.lock.specs.Order.{Leaves, InOrder, PassesWithin}
 use Rattle.lock.specs.Others.{other_after}
-use Rattle.lock.specs.Runs.{own, steps, run, Sometime, Each, AllOut, CallsMove}
+use Rattle.lock.specs.Runs.{own, run, Sometime, Each, AllOut, CallsMove}
 use Rattle.lock.specs.Stations.{among, board, accepted, place_of, Stands}
 use Rattle.lock.specs.Stations as stations
 use Rattle.lock.specs.Tables.{kept_for, listed}
 use Rattle.lock.proofs.Runs.{arrives}
-use Rattle.lock.proofs.Stations.{out≢trying, out≢inside, trying≢inside, true≢false, start_accepted, leave_accepted, accepted_step, among_from, from_among, own_same, no_own}
+use Rattle.lock.proofs.Stations.{out≢trying, trying≢inside, true≢false, start_accepted, leave_accepted, among_from, from_among, own_same, no_own}
 use Rattle.lock.proofs.Local.{reached, good_after}
 use Rattle.queue.specs.declared.state.Phase.{Phase}
 use Rattle.queue.specs.declared.state.Phase.TheVariants.{Out, Pairing, Turning, Noting, Raising, Watching, Comparing, Below, Leaving}
 use Rattle.queue.specs.declared.state.Queue.{Queue}
 use Rattle.queue.specs.declared.state.Row.{Row}
-use Rattle.queue.specs.Rule.{door, none, high, lowest, put_at, noted, noting, pairing, watched, compared, lowered, raised, favours, strike, z_of, station, tries, waits_at, waits, door_step, row_step, shown, door_at, row_at, read_y, read_z, seen, out_below, next_door, next_row, done, new_queue, queue_after}
+use Rattle.queue.specs.Rule.{door, none, high, lowest, put_at, noting, pairing, watched, compared, favours, strike, z_of, station, tries, waits_at, waits, door_step, row_step, shown, door_at, row_at, read_y, read_z, seen, out_below, next_door, next_row, new_queue, queue_after}
 use Rattle.queue.specs.Shown.{There, length_shown, at_shown, waits_there}
-use Rattle.queue.specs.Moves.{there_done, door_done, call_there, took, stayed, noting_tries, pairing_tries}
+use Rattle.queue.specs.Moves.{there_done, door_done, call_there, took, stayed}
 use Rattle.queue.specs.Fits.{never, engaged, fits_below, fits_y, Fit}
 use Rattle.queue.specs.Keeps.{Good, count_doors, row_done, calls, out_phase, inside_phase}
 use Rattle.queue.specs.Settles.{Left, left_alone, own_step, own_not, shows_as}
 use Rattle.queue.specs.Enters.{way_cases, out_there}
-use Rattle.queue.specs.Doorway.{left, left_first, to_go, pairing_go, doorway, on_way, pairing_way, some_left, nearer}
+use Rattle.queue.specs.Doorway.{left, left_first, to_go, pairing_go, doorway, on_way, some_left, nearer}
 use Rattle.queue.specs.Pair.{Knows, Reads, start_knows, step_knows}
 
 -- a board past its doorway, in the layer or below

@@ -1,12 +1,11 @@
 -- How many own steps a board still needs to pass its doorway and to start below, while nobody is noted.
-use Rattle.std.specs.Prelude.{◌≡◌, ℕ, zero, suc, ◌+◌, ◌-◌, ◌*◌, ◌<◌, ◌≤◌, Bool, true, false, cond, not, ◌&&◌, ◌⊎◌, List, Some, None, Option, ◌==◌, nat_lt, refl}
-use Rattle.std.proofs.Common.{sym, ap, subst, ◌∙◌, inl, inr, arith}
+use Rattle.std.specs.Prelude.{◌≡◌, ℕ, ◌+◌, ◌-◌, ◌*◌, ◌≤◌, Bool, true, false, cond, not, List, Some, None, Option, ◌==◌, nat_lt, refl}
+use Rattle.std.proofs.Common.{sym, ap, ◌∙◌, arith}
 use Rattle.std.proofs.lemmas.Bool.{ltb-true, ltb-false, and_parts}
 use Rattle.line.specs.declared.Level.{Level}
-use Rattle.line.specs.declared.Level.TheVariants as to
 use Rattle.line.specs.declared.Line.{Line}
 use Rattle.line.specs.declared.Line.TheVariants.{Low, Rising, High, Falling}
-use Rattle.line.specs.Rule.{begun, moving, heading}
+use Rattle.line.specs.Rule.{moving, heading}
 use Rattle.lock.specs.declared.station.Station.{Station}
 use Rattle.lock.specs.Most.{most}
 use Rattle.lock.specs.Others.{other_after}
@@ -16,8 +15,8 @@ use Rattle.lock.proofs.Stations.{among_from, from_among}
 use Rattle.queue.specs.declared.state.Phase.{Phase}
 use Rattle.queue.specs.declared.state.Phase.TheVariants.{Out, Pairing, Turning, Noting, Raising, Watching, Comparing, Below, Leaving}
 use Rattle.queue.specs.declared.state.Row.{Row}
-use Rattle.queue.specs.Rule.{opposite, favours, z_of, half_turned, turned, noting, pairing, paired, turned_on, noted, door_step, row_step}
-use Rattle.queue.specs.Fits.{never, low, Fit, turned_here}
+use Rattle.queue.specs.Rule.{favours, z_of, half_turned, turned, noting, pairing, paired, turned_on, door_step, row_step}
+use Rattle.queue.specs.Fits.{never, Fit, turned_here}
 
 -- the other boards above j
 abbrev pub left : ℕ → ℕ → ℕ → ℕ

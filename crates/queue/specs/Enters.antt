@@ -1,15 +1,14 @@
 -- A board that is started while all others are out is inside within 4 N - 1 steps more than the lock below needs.
-use Rattle.std.specs.Prelude.{◌≡◌, ℕ, zero, suc, ◌+◌, ◌-◌, ◌*◌, ◌<◌, ◌≤◌, Bool, true, false, cond, not, ◌&&◌, ◌⊎◌, List, [], ◌∷◌, ◌++◌, length, Some, None, Option, ◌==◌, ◌≢◌, refl}
+use Rattle.std.specs.Prelude.{◌≡◌, ℕ, ◌+◌, ◌-◌, ◌*◌, ◌≤◌, Bool, true, false, cond, not, ◌⊎◌, List, Some, None, Option, ◌==◌, ◌≢◌, refl}
 use Rattle.std.proofs.Common.{sym, ap, subst, ◌∙◌, inl, inr, arith}
-use Rattle.std.proofs.lemmas.Bool.{cases_eq, cases_Bool, eq-eqb, and_parts}
-use Rattle.line.specs.declared.Level.{Level}
+use Rattle.std.proofs.lemmas.Bool.{eq-eqb, and_parts}
 use Rattle.line.specs.declared.Level.TheVariants as to
 use Rattle.line.specs.declared.Line.{Line}
 use Rattle.line.specs.declared.Line.TheVariants.{Low, Rising, High, Falling}
 use Rattle.line.specs.Rule.{begun, ended, moving, reading}
 use Rattle.lock.specs.declared.boards.Boards.{Boards}
 use Rattle.lock.specs.declared.station.Call.{Call}
-use Rattle.lock.specs.declared.station.Call.TheVariants.{Start, Step, Leave, Pull}
+use Rattle.lock.specs.declared.station.Call.TheVariants.{Start, Step}
 use Rattle.lock.specs.declared.station.Station.{Station}
 use Rattle.lock.specs.declared.station.Station.TheVariants as at
 use Rattle.lock.specs.Others.{other_after}
@@ -17,16 +16,15 @@ use Rattle.lock.specs.Runs.{own, steps, Spares, OthersOut, run, Sometime, Each, 
 use Rattle.lock.specs.Stations.{among, board, accepted, Stands}
 use Rattle.lock.specs.Stations as stations
 use Rattle.lock.proofs.Runs.{at_once, arrives_then, Passes, descends_within}
-use Rattle.lock.proofs.Stations.{out≢inside, true≢false, start_accepted, accepted_step, from_among, own_same, own_other}
-use Rattle.lock.proofs.Local.{Clear, reached, good_after, clear_start, clear_falls}
+use Rattle.lock.proofs.Stations.{true≢false, start_accepted, from_among, own_same, own_other}
+use Rattle.lock.proofs.Local.{Clear, reached, clear_start, clear_falls}
 use Rattle.queue.specs.declared.state.Phase.{Phase}
 use Rattle.queue.specs.declared.state.Phase.TheVariants.{Out, Pairing, Turning, Noting, Raising, Watching, Comparing, Below, Leaving}
 use Rattle.queue.specs.declared.state.Queue.{Queue}
-use Rattle.queue.specs.declared.state.Row.{Row}
-use Rattle.queue.specs.Rule.{door, watched, started, read_y, none, lowest, pairing, noted, station, sent_step, door_step, row_step, shown, door_at, row_at, seen, out_below, sent, next_door, next_row, passed_on, done, new_queue, queue_after}
+use Rattle.queue.specs.Rule.{door, watched, started, read_y, none, lowest, pairing, noted, station, sent_step, door_step, shown, door_at, row_at, seen, out_below, sent, next_door, next_row, passed_on, new_queue, queue_after}
 use Rattle.queue.specs.Shown.{There, length_shown, at_shown}
-use Rattle.queue.specs.Moves.{there_done, door_done, call_there, took, stayed}
-use Rattle.queue.specs.Fits.{never, engaged, low, out_station, other, fits_below, fits_y, names, Fit, can_start}
+use Rattle.queue.specs.Moves.{there_done, door_done, call_there, took}
+use Rattle.queue.specs.Fits.{never, engaged, low, out_station, fits_below, fits_y, names, can_start}
 use Rattle.queue.specs.Keeps.{Real, Good, count_doors, known_below, length_real, row_done, calls, out_phase}
 use Rattle.queue.specs.Settles.{Left, left_alone, passes_other, own_step}
 use Rattle.queue.specs.Doorway.{left_first, to_go, pairing_go, doorway, on_way, pairing_way, some_left, nearer}

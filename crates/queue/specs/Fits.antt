@@ -1,7 +1,7 @@
 -- What the lines, the phase and the station below of one board have to do with each other, and that each call keeps it.
-use Rattle.std.specs.Prelude.{◌≡◌, ℕ, zero, suc, ◌+◌, ◌-◌, ◌<◌, ◌≤◌, Bool, true, false, cond, not, ◌&&◌, ◌||◌, ◌≢◌, ◌⊎◌, List, [], ◌∷◌, map, length, Some, None, Option, ◌==◌, slice_index_or, refl}
-use Rattle.std.proofs.Common.{sym, ap, subst, ◌∙◌, inl, inr, arith}
-use Rattle.std.proofs.lemmas.Bool.{cases_eq, eq-eqb, ne_eqb, eqb-true, and_parts, cases_lt}
+use Rattle.std.specs.Prelude.{◌≡◌, ℕ, ◌-◌, ◌<◌, ◌≤◌, Bool, true, false, cond, not, ◌&&◌, ◌||◌, ◌≢◌, ◌⊎◌, List, map, length, Some, None, Option, ◌==◌, slice_index_or, refl}
+use Rattle.std.proofs.Common.{sym, ap, ◌∙◌, inl, inr, arith}
+use Rattle.std.proofs.lemmas.Bool.{cases_eq, eq-eqb, ne_eqb, and_parts, cases_lt}
 use Rattle.std.proofs.lemmas.List.{length-set, length-map, get_or-map, get_or-set_same, get_or-set_other, get_or_past}
 use Rattle.line.specs.declared.Level.{Level}
 use Rattle.line.specs.declared.Level.TheVariants as to
@@ -10,7 +10,7 @@ use Rattle.line.specs.declared.Line.TheVariants.{Low, Rising, High, Falling}
 use Rattle.line.specs.Rule.{begun, ended, moving, heading}
 use Rattle.lock.specs.declared.boards.Boards.{Boards}
 use Rattle.lock.specs.declared.station.Call.{Call}
-use Rattle.lock.specs.declared.station.Call.TheVariants.{Start, Step, Leave, Pull}
+use Rattle.lock.specs.declared.station.Call.TheVariants.{Start, Step, Pull}
 use Rattle.lock.specs.declared.station.Station.{Station}
 use Rattle.lock.specs.declared.station.Station.TheVariants as at
 use Rattle.lock.specs.Most.{most}
@@ -20,11 +20,10 @@ use Rattle.lock.specs.Stations.{among, accepted, place_of}
 use Rattle.lock.specs.Stations as stations
 use Rattle.lock.proofs.Others.{NextOther, Found, other_found}
 use Rattle.lock.proofs.Stations.{among_from, from_among, start_accepted, stands_with, true≢false}
-use Rattle.queue.specs.declared.state.Door.{Door}
 use Rattle.queue.specs.declared.state.Phase.{Phase}
 use Rattle.queue.specs.declared.state.Phase.TheVariants.{Out, Pairing, Turning, Noting, Raising, Watching, Comparing, Below, Leaving}
 use Rattle.queue.specs.declared.state.Row.{Row}
-use Rattle.queue.specs.Rule.{door, none, high, lowest, noted, noting, pairing, paired, turned_on, favours, opposite, line_at, put_at, z_of, half_turned, turned, settled, watched, compared, raised, lowered, door_step, row_step, sent_step, started, passed_on, MovedBelow}
+use Rattle.queue.specs.Rule.{high, lowest, noting, pairing, paired, turned_on, favours, opposite, line_at, put_at, z_of, half_turned, turned, settled, watched, compared, door_step, row_step, sent_step, started, passed_on, MovedBelow}
 use Rattle.queue.specs.Lines.{OneMoves}
 use Rattle.queue.specs.Moves.{step_below}
 

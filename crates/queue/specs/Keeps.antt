@@ -1,5 +1,5 @@
 -- The layer keeps the first laws of a lock, from those of the lock below.
-use Rattle.std.specs.Prelude.{◌≡◌, ℕ, zero, suc, ◌+◌, ◌-◌, ◌<◌, ◌≤◌, Bool, true, false, cond, not, ◌⊎◌, List, [], ◌∷◌, ◌++◌, length, get_or, replicate, is_ok, Some, None, Ok, Err, Option, ◌≢◌, slice_index_or, refl}
+use Rattle.std.specs.Prelude.{◌≡◌, ℕ, zero, suc, ◌+◌, ◌-◌, ◌≤◌, Bool, true, false, cond, not, ◌⊎◌, List, [], ◌∷◌, ◌++◌, length, get_or, replicate, is_ok, Some, None, Ok, Err, Option, ◌≢◌, slice_index_or, refl}
 use Rattle.std.proofs.Common.{sym, ap, subst, ◌∙◌, inl, inr, arith}
 use Rattle.std.proofs.lemmas.Bool.{cases_eq, cases_Bool}
 use Rattle.std.proofs.lemmas.List.{length-set, length-replicate, take-replicate}
@@ -17,20 +17,18 @@ use Rattle.lock.specs.Runs.{run, AllOut, MovesAt, CallsMove}
 use Rattle.lock.specs.Others.{other_after}
 use Rattle.lock.specs.Stations.{among, board, accepted, leave_at, pull_at, place_of, Stands}
 use Rattle.lock.specs.Stations as stations
-use Rattle.lock.specs.Tables.{listed, kept_for, written}
+use Rattle.lock.specs.Tables.{listed, kept_for}
 use Rattle.lock.proofs.Runs.{run_more}
 use Rattle.lock.proofs.Stations.{true≢false, moved_to, start_accepted, leave_accepted, among_from, stands_with, all_out_at}
 use Rattle.lock.proofs.Tables.{listed_length, asked_same, asked_other, written_boards, written_long}
 use Rattle.lock.proofs.Local.{Calls}
-use Rattle.queue.specs.declared.state.Door.{Door}
 use Rattle.queue.specs.declared.state.Phase.{Phase}
 use Rattle.queue.specs.declared.state.Phase.TheVariants.{Out, Pairing, Turning, Noting, Raising, Watching, Comparing, Below, Leaving}
 use Rattle.queue.specs.declared.state.Queue.{Queue}
-use Rattle.queue.specs.declared.state.Row.{Row}
 use Rattle.queue.specs.Rule.{door, none, low_row, door_there as door_of, row_there, pairing, door_step, z_of, line_at, high, station, shown_from, shown, door_at, row_at, seen, out_below, sent, next_door, next_row, passed_on, MovedBelow, done, new_queue, queue_after}
-use Rattle.queue.specs.Shown.{There, length_shown, at_shown}
-use Rattle.queue.specs.Moves.{sent_board, others_below, there_done, was_there, door_done, door_other, call_there, took, stayed, moves_at}
-use Rattle.queue.specs.Fits.{never, is_out, engaged, going, low, rising, fits_below, Fit, pairing_fit, step_fit, pull_fit}
+use Rattle.queue.specs.Shown.{There, at_shown}
+use Rattle.queue.specs.Moves.{sent_board, others_below, was_there, door_done, door_other, call_there, took, moves_at}
+use Rattle.queue.specs.Fits.{never, is_out, engaged, going, rising, fits_below, Fit, pairing_fit, step_fit, pull_fit}
 
 replicate_at : {X : Type 0} (x : X) (k i : ℕ) → slice_index_or (replicate k x) i x ≡ x
 replicate_at x zero i = refl

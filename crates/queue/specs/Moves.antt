@@ -1,5 +1,5 @@
 -- An accepted call moves its own board as the meaning of a lock says, and nobody else.
-use Rattle.std.specs.Prelude.{◌≡◌, ℕ, ◌+◌, ◌-◌, ◌<◌, ◌≤◌, Bool, true, false, cond, ◌⊎◌, List, length, Some, None, Option, ◌≢◌, slice_index_or, slice_set, refl}
+use Rattle.std.specs.Prelude.{◌≡◌, ℕ, ◌-◌, ◌≤◌, Bool, true, false, cond, ◌⊎◌, List, length, Some, None, Option, ◌≢◌, slice_index_or, slice_set, refl}
 use Rattle.std.proofs.Common.{sym, ap, subst, ◌∙◌, inl, inr, arith}
 use Rattle.std.proofs.lemmas.Bool.{cases_Bool, cases_lt}
 use Rattle.std.proofs.lemmas.List.{length-set, get_or-set_same, get_or-set_other, get_or_past}
@@ -17,15 +17,14 @@ use Rattle.lock.specs.Others.{other_after}
 use Rattle.lock.specs.Runs.{MovesAt}
 use Rattle.lock.specs.Stations.{board, accepted, Stands, NoneElse, StepsTo, Moves}
 use Rattle.lock.specs.Stations as stations
-use Rattle.lock.specs.Tables.{listed, kept_for, written}
-use Rattle.lock.proofs.Stations.{out≢inside, among_from, from_among, board_there, start_accepted, step_accepted, moved_to, other_with, stands_with}
+use Rattle.lock.specs.Tables.{listed}
+use Rattle.lock.proofs.Stations.{out≢inside, board_there, start_accepted, step_accepted, moved_to, other_with, stands_with}
 use Rattle.lock.proofs.Tables.{listed_written}
-use Rattle.queue.specs.declared.state.Door.{Door}
 use Rattle.queue.specs.declared.state.Phase.{Phase}
 use Rattle.queue.specs.declared.state.Phase.TheVariants.{Out, Pairing, Turning, Noting, Raising, Watching, Comparing, Below, Leaving}
 use Rattle.queue.specs.declared.state.Queue.{Queue}
 use Rattle.queue.specs.declared.state.Row.{Row}
-use Rattle.queue.specs.Rule.{door, none, high, lowest, noting, pairing, paired, turned_on, favours, z_of, watched, compared, raised, lowered, door_step, sent_step, started, station, shown, door_at, row_at, seen, out_below, sent, next_door, next_row, passed_on, MovedBelow, done, queue_after}
+use Rattle.queue.specs.Rule.{door, none, high, lowest, noting, pairing, paired, turned_on, favours, z_of, watched, compared, door_step, sent_step, started, station, shown, door_at, row_at, seen, out_below, sent, next_door, passed_on, MovedBelow, done, queue_after}
 use Rattle.queue.specs.Shown.{There, length_shown, door_there, at_shown, moved_only}
 
 -- the phases of the doorway and of waiting belong to trying, whatever the station below

@@ -1,17 +1,17 @@
 -- A pair of boards of which one waits: what the other, in its doorway or waiting, knows of it, and that its own steps keep that.
-use Rattle.std.specs.Prelude.{◌≡◌, ℕ, zero, suc, ◌+◌, ◌-◌, ◌<◌, ◌≤◌, Bool, true, false, cond, not, ◌≢◌, ◌⊎◌, List, [], ◌∷◌, length, Some, None, Option, slice_index_or, refl}
+use Rattle.std.specs.Prelude.{◌≡◌, ℕ, zero, suc, ◌+◌, ◌-◌, ◌<◌, ◌≤◌, Bool, true, false, cond, ◌≢◌, List, [], ◌∷◌, length, Some, None, Option, slice_index_or, refl}
 use Rattle.std.proofs.Common.{sym, ap, subst, ◌∙◌, inl, inr, arith}
-use Rattle.std.proofs.lemmas.Bool.{cases_eq, cases_lt, ltb-true, ltb-false, lt-ltb, le-ltb}
-use Rattle.std.proofs.lemmas.List.{length-set, get_or-set_same, get_or-set_other}
+use Rattle.std.proofs.lemmas.Bool.{cases_eq, cases_lt, ltb-true, le-ltb}
+use Rattle.std.proofs.lemmas.List.{get_or-set_same, get_or-set_other}
 use Rattle.line.specs.declared.Level.{Level}
 use Rattle.line.specs.declared.Level.TheVariants as to
 use Rattle.line.specs.declared.Line.{Line}
 use Rattle.line.specs.declared.Line.TheVariants.{Low, Rising, High, Falling}
-use Rattle.line.specs.Rule.{begun, ended, heading, moving, reading}
+use Rattle.line.specs.Rule.{begun, ended, heading, moving}
 use Rattle.lock.specs.Most.{most}
 use Rattle.lock.specs.Others.{other_after}
 use Rattle.lock.specs.Stations.{among, place_of}
-use Rattle.lock.proofs.Others.{NextOther, Found, other_found}
+use Rattle.lock.proofs.Others.{Found, other_found}
 use Rattle.lock.proofs.Stations.{from_among, true≢false}
 use Rattle.queue.specs.declared.state.Phase.{Phase}
 use Rattle.queue.specs.declared.state.Phase.TheVariants.{Out, Pairing, Turning, Noting, Raising, Watching, Comparing, Below, Leaving}

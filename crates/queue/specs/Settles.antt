@@ -1,5 +1,5 @@
 -- A leaving board is out within two steps more than the lock below needs.
-use Rattle.std.specs.Prelude.{◌≡◌, ℕ, zero, suc, ◌+◌, ◌-◌, ◌<◌, ◌≤◌, Bool, true, false, cond, not, ◌⊎◌, List, [], ◌∷◌, ◌++◌, length, Some, None, Option, ◌≢◌, refl}
+use Rattle.std.specs.Prelude.{◌≡◌, ℕ, ◌+◌, ◌≤◌, Bool, true, false, cond, ◌⊎◌, List, ◌++◌, Some, None, Option, ◌≢◌, refl}
 use Rattle.std.proofs.Common.{sym, ap, subst, ◌∙◌, inl, inr, arith}
 use Rattle.std.proofs.lemmas.Bool.{cases_eq, cases_Bool}
 use Rattle.line.specs.declared.Line.{Line}
@@ -12,18 +12,17 @@ use Rattle.lock.specs.declared.station.Station.TheVariants as at
 use Rattle.lock.specs.Runs.{own, steps, run, Sometime, Each, AllOut, CallsMove, OutWithin}
 use Rattle.lock.specs.Stations.{board, accepted, Stands}
 use Rattle.lock.specs.Stations as stations
-use Rattle.lock.proofs.Runs.{at_once, each_any, arrives, cut, sometime_then, Passes, descends_within}
-use Rattle.lock.proofs.Stations.{out≢trying, out≢leaving, trying≢leaving, inside≢leaving, true≢false, start_accepted, leave_accepted, pull_accepted, accepted_step, own_same, own_other, no_own}
+use Rattle.lock.proofs.Runs.{each_any, arrives, cut, sometime_then, Passes, descends_within}
+use Rattle.lock.proofs.Stations.{out≢leaving, trying≢leaving, inside≢leaving, start_accepted, leave_accepted, pull_accepted, accepted_step, own_same, own_other, no_own}
 use Rattle.lock.proofs.Local.{reached, good_after}
-use Rattle.queue.specs.declared.state.Door.{Door}
 use Rattle.queue.specs.declared.state.Phase.{Phase}
 use Rattle.queue.specs.declared.state.Phase.TheVariants.{Out, Pairing, Turning, Noting, Raising, Watching, Comparing, Below, Leaving}
 use Rattle.queue.specs.declared.state.Queue.{Queue}
-use Rattle.queue.specs.Rule.{door, high, lowered, station, sent_step, door_step, seen, shown, door_at, row_at, out_below, sent, next_door, passed_on, done, new_queue, queue_after}
+use Rattle.queue.specs.Rule.{door, high, lowered, station, sent_step, door_step, seen, shown, door_at, row_at, out_below, sent, passed_on, done, new_queue, queue_after}
 use Rattle.queue.specs.Shown.{There, length_shown, at_shown}
 use Rattle.queue.specs.Moves.{sent_board, others_below, there_done, door_done, door_other, call_there, took, stayed}
-use Rattle.queue.specs.Fits.{never, is_out, engaged, going, fits_below, Fit, steps_below, can_start, StepsBelow}
-use Rattle.queue.specs.Keeps.{Real, Good, count_doors, moved_below, moved_real, known_below, length_real, row_done, row_other, calls}
+use Rattle.queue.specs.Fits.{never, engaged, going, fits_below, steps_below, can_start}
+use Rattle.queue.specs.Keeps.{Good, moved_below, moved_real, known_below, row_other, calls}
 
 -- a call of another board is no own step
 pub own_not : (b : ℕ) (c : Call) → (board c ≢ b) → own b c ≡ 0

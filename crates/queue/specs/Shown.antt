@@ -1,7 +1,7 @@
 -- The stations that a layer shows, board by board.
-use Rattle.std.specs.Prelude.{◌≡◌, ℕ, zero, suc, ◌+◌, ◌-◌, ◌<◌, ◌≤◌, Bool, true, false, cond, ◌⊎◌, List, [], ◌∷◌, length, get_or, Ok, Err, Result, ◌≢◌, slice_index_or, refl}
-use Rattle.std.proofs.Common.{sym, ap, subst, ◌∙◌, inl, inr, arith}
-use Rattle.std.proofs.lemmas.Bool.{cases_Bool, cases_eq, cases_lt}
+use Rattle.std.specs.Prelude.{◌≡◌, ℕ, zero, suc, ◌+◌, ◌-◌, ◌<◌, ◌≤◌, Bool, true, false, cond, List, [], ◌∷◌, length, get_or, Ok, Err, Result, ◌≢◌, slice_index_or, refl}
+use Rattle.std.proofs.Common.{sym, ap, ◌∙◌, inl, inr, arith}
+use Rattle.std.proofs.lemmas.Bool.{cases_eq, cases_lt}
 use Rattle.std.proofs.lemmas.List.{same_lists, length-set, get_or-set_same, get_or-set_other, get_or_past, get_or_default}
 use Rattle.line.specs.declared.Line.TheVariants.{Low}
 use Rattle.lock.specs.declared.boards.Boards.{Boards}
@@ -16,7 +16,6 @@ use Rattle.lock.specs.Stations as stations
 use Rattle.lock.specs.Tables.{listed, kept_for, asked}
 use Rattle.lock.proofs.Stations.{among_from, from_among, true≢false}
 use Rattle.queue.specs.declared.state.Door.{Door}
-use Rattle.queue.specs.declared.state.Phase.{Phase}
 use Rattle.queue.specs.declared.state.Phase.TheVariants.{Out}
 use Rattle.queue.specs.declared.state.Queue.{Queue}
 use Rattle.queue.specs.Rule.{door, none, station, station_there, shown_from, shown, door_at, door_there as door_of, waits_at, waits, new_queue, queue_after}

@@ -1,9 +1,7 @@
 -- A run carries the law on.
 use Rattle.std.proofs.Common.{◌≡◌, List, sym, refl, ap, ◌∙◌}
 use Rattle.interpolator.specs.declared.Interpolator as interpolator
-use Rattle.lock.specs.declared.boards.Boards.{Boards}
 use Rattle.service.specs.declared.event.Event.{Event}
-use Rattle.service.specs.History.{History}
 use Rattle.service.specs.Rule.{Lockwork, trace}
 use Rattle.service.specs.Runs.{replies, after_all, grown, painted_all}
 use Rattle.service.proofs.Grown.{grown_given, grown_trace, grown_panel}

@@ -1,5 +1,5 @@
 -- A run over a list of events: the two lists that it fills, and the law that it carries on.
-use Rattle.std.specs.Prelude.{◌≡◌, ℕ, ◌+◌, Bool, cond, ◌||◌, List, [], ◌∷◌, ◌++◌, map, reverse, Some, None, Ok, Err, Option, Result, nat_lt, slice_set}
+use Rattle.std.specs.Prelude.{◌≡◌, ℕ, ◌+◌, cond, ◌||◌, List, [], ◌∷◌, ◌++◌, map, reverse, Some, None, Ok, Err, Option, Result, nat_lt, slice_set}
 use Rattle.filling.specs.declared.refusal.Refusal.{Refusal}
 use Rattle.filling.specs.declared.refusal.Refusal.TheVariants.{NoFreePlace}
 use Rattle.filling.specs.declared.stamped.Stamped.{Stamped}

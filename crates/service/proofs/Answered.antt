@@ -1,5 +1,5 @@
 -- Every call keeps the agreement of history and view, and is answered as it should be.
-use Rattle.std.proofs.Common.{◌≡◌, ℕ, zero, suc, ◌-◌, ◌<◌, ◌≤◌, Bool, true, false, cond, ◌&&◌, leb, ◌⊎◌, List, [], ◌∷◌, ◌++◌, length, get_or, replicate, Ok, Err, Result, sym, refl, ap, ◌∙◌, subst, inl, inr, arith}
+use Rattle.std.proofs.Common.{◌≡◌, ℕ, zero, suc, ◌-◌, ◌<◌, Bool, true, false, cond, ◌&&◌, leb, ◌⊎◌, [], ◌∷◌, ◌++◌, length, get_or, replicate, Ok, Err, Result, sym, refl, ap, ◌∙◌, subst, inl, inr, arith}
 use Rattle.std.proofs.lemmas.Bool.{cases_Bool, leb-true, and_parts, cond-true, cond-false}
 use Rattle.std.proofs.lemmas.List.{get_or-map, length-replicate}
 use Rattle.lock.specs.declared.boards.Boards.{Boards}
@@ -16,7 +16,7 @@ use Rattle.service.specs.declared.standing.Standing.TheVariants.{Out, Doorway, W
 use Rattle.service.specs.History.{Entry, Asked, Stepped, Pulled, History, station, waiting, asked, since_entry, bits}
 use Rattle.service.specs.Law.{ask_at, pull_at, Rightly}
 use Rattle.service.specs.Records.{blank, given, gone, waits, is_waiting}
-use Rattle.service.specs.Rule.{Lockwork, View, own, there, marked, waiting_now, with_own, with_lock, new_view, step_outcome, step_answer, step_leaves, ask_answer, ask_leaves, pull_answer, pull_leaves, trace, Given}
+use Rattle.service.specs.Rule.{Lockwork, View, own, there, marked, waiting_now, with_own, with_lock, new_view, step_outcome, step_answer, step_leaves, ask_leaves, pull_leaves, trace, Given}
 use Rattle.service.proofs.Bits.{bits_same}
 use Rattle.service.proofs.Reached.{Keeps, may_start, may_pull, waits_not, moves_at, doors_at}
 use Rattle.service.proofs.Says.{says_ask, says_pull, says_no_ask, says_no_step, says_no_pull}

@@ -1,5 +1,5 @@
 -- Sets of boards as numbers.
-use Rattle.std.proofs.Common.{◌≡◌, ℕ, zero, suc, ◌+◌, ◌^◌, ◌<◌, ◌≤◌, Bool, true, false, cond, List, sym, refl, ap, ◌∙◌, arith}
+use Rattle.std.proofs.Common.{◌≡◌, ℕ, zero, suc, ◌+◌, ◌^◌, ◌≤◌, Bool, cond, refl, ap, ◌∙◌, arith}
 use Rattle.service.specs.History.{bits}
 
 -- two sets with the same boards of 1 to n are one number

@@ -1,7 +1,5 @@
 -- What a step does to the lock and to the sets ahead.
-use Rattle.std.proofs.Common.{◌≡◌, ℕ, ◌-◌, Bool, true, false, cond, ◌⊎◌, List, map, set, Ok, Err, Result, sym, refl, ap, ◌∙◌, subst, inl, inr}
-use Rattle.std.proofs.lemmas.Bool.{cases_Bool, cond-true, cond-false}
-use Rattle.lock.specs.declared.station.Call.{Call}
+use Rattle.std.proofs.Common.{◌≡◌, ℕ, ◌-◌, Bool, true, false, cond, ◌⊎◌, List, map, set, Ok, Err, Result, sym, refl, subst, inl, inr}
 use Rattle.lock.specs.declared.station.Call.TheVariants.{Step, Leave}
 use Rattle.lock.specs.Stations.{told}
 use Rattle.service.specs.declared.progress.Progress.{Progress}

@@ -1,15 +1,12 @@
 -- Each step keeps the agreement of history and view, and is answered as it should be.
-use Rattle.std.proofs.Common.{◌≡◌, ℕ, suc, ◌-◌, ◌<◌, ◌≤◌, Bool, true, false, cond, ◌&&◌, leb, ◌⊎◌, List, [], ◌∷◌, length, ℤ, pos, ◌-ℤ◌, Ok, Err, Result, sym, refl, ap, ◌∙◌, subst, inl, inr, arith}
+use Rattle.std.proofs.Common.{◌≡◌, ℕ, suc, ◌-◌, ◌<◌, ◌≤◌, Bool, true, false, cond, ◌&&◌, leb, ◌∷◌, length, ℤ, pos, ◌-ℤ◌, Ok, sym, refl, ap, ◌∙◌, subst, inl, inr, arith}
 use Rattle.std.proofs.lemmas.Bool.{cases_Bool, le-leb}
 use Rattle.std.proofs.lemmas.List.{set-get_or}
-use Rattle.interpolator.specs.Counts.{put}
 use Rattle.lock.specs.declared.boards.Boards.{Boards}
 use Rattle.lock.specs.declared.station.Call.TheVariants.{Step, Leave}
-use Rattle.lock.specs.declared.station.Station.{Station}
 use Rattle.lock.specs.declared.station.Station.TheVariants.{Out as Outside, Trying, Inside as Within, Leaving as Going}
 use Rattle.lock.specs.Stations.{among, at, told, accepted, Stands}
-use Rattle.lock.proofs.Stations.{among_from, accepted_step, stands_with, out≢trying, out≢inside, trying≢inside, trying≢leaving, inside≢leaving}
-use Rattle.service.specs.declared.progress.Progress.{Progress}
+use Rattle.lock.proofs.Stations.{among_from, accepted_step, stands_with, out≢trying, trying≢inside, trying≢leaving}
 use Rattle.service.specs.declared.progress.Progress.TheVariants.{Idle, Working, Passed, Entered, Shown, CameOut}
 use Rattle.service.specs.declared.record.Record.{Record}
 use Rattle.service.specs.declared.record.Stage.{Stage}
@@ -19,9 +16,9 @@ use Rattle.service.specs.declared.standing.Standing.TheVariants.{Out, Doorway, W
 use Rattle.service.specs.History.{Stepped, History, Asking, station, asked, since_entry, difference}
 use Rattle.service.specs.Law.{StepAt}
 use Rattle.service.specs.Records.{blank, gone, arrived, staged}
-use Rattle.service.specs.Rule.{Lockwork, Counts, View, own, with_own, with_lock, with_counts, struck, is_inside, is_out, Outcome, outcome, passed, doorway_step, waiting_step, leaving_step, inside_step, step_at}
+use Rattle.service.specs.Rule.{Lockwork, Counts, View, own, with_own, with_lock, struck, is_inside, is_out, Outcome, outcome, passed, doorway_step, waiting_step, leaving_step, inside_step, step_at}
 use Rattle.service.proofs.Reached.{Keeps, told_there, may_leave, one_at, tries_at, waits_not, moves_at, doors_at}
-use Rattle.service.proofs.Says.{Said, says_step}
+use Rattle.service.proofs.Says.{says_step}
 use Rattle.service.proofs.Agrees.{as_lock, number, Work, Busy, FitsAt, Agrees, agrees_sets, known, Moved, unmoved, by_call, changed, acts}
 
 pub not_inside : Out ≡ Inside → ⊥

@@ -6,7 +6,7 @@ use Rattle.panel.specs.declared.display.Panel.{Panel}
 use Rattle.panel.specs.declared.reading.Reading.{Reading}
 use Rattle.service.specs.declared.event.Event.{Event}
 use Rattle.service.specs.declared.event.Event.TheVariants.{Ask, Step, Pull}
-use Rattle.service.specs.History.{Entry, History, event_of, reading_of, painted, panel_of, later, last_shown}
+use Rattle.service.specs.History.{History, event_of, reading_of, painted, panel_of, later, last_shown}
 use Rattle.service.specs.Rule.{Lockwork, View, trace, Given}
 use Rattle.service.specs.Runs.{reply, next, replies, after_all, grown, painted_all}
 

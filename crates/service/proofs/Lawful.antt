@@ -1,10 +1,10 @@
 -- Every history that the rule gives is lawful.
-use Rattle.std.proofs.Common.{◌≡◌, ℕ, ◌+◌, ◌≤◌, Bool, true, false, ◌⊎◌, List, [], ◌∷◌, ◌++◌, ℤ, Ok, sym, refl, ap, ◌∙◌, subst, inl, inr, arith}
+use Rattle.std.proofs.Common.{◌≡◌, ℕ, ◌+◌, ◌∷◌, ◌++◌, ℤ, Ok, subst, inl, inr, arith}
 use Rattle.lock.specs.declared.boards.Boards.{Boards}
 use Rattle.service.specs.declared.progress.Progress.TheVariants.{Entered, Shown}
 use Rattle.service.specs.declared.standing.Standing.{Standing}
 use Rattle.service.specs.declared.standing.Standing.TheVariants.{Out, Doorway, Waiting, Inside, Leaving}
-use Rattle.service.specs.History.{Entry, Stepped, History, station, asked, difference, since_entry}
+use Rattle.service.specs.History.{Stepped, History, station, asked, difference, since_entry}
 use Rattle.service.specs.Law.{StepAt, Lawful}
 use Rattle.service.specs.Rule.{Lockwork, trace, Given}
 use Rattle.service.proofs.Reached.{Keeps}

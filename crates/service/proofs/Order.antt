@@ -1,13 +1,13 @@
 -- Nobody goes inside past a board that stands ahead of it, from the lock's law on order.
-use Rattle.std.proofs.Common.{◌≡◌, ℕ, ◌≤◌, Bool, true, false, cond, ◌&&◌, eqb, leb, ◌⊎◌, List, [], ◌∷◌, ◌++◌, ℤ, Ok, Err, Result, sym, refl, ap, ◌∙◌, subst, inl, inr, arith}
+use Rattle.std.proofs.Common.{◌≡◌, ℕ, Bool, true, false, ◌&&◌, eqb, leb, List, [], ◌∷◌, ◌++◌, ℤ, Ok, Err, Result, sym, refl, ap, ◌∙◌, subst, inl, inr, arith}
 use Rattle.std.proofs.lemmas.Bool.{true≢false, cases_eq, cases_Bool, eq-eqb, ne_eqb, cond-true, cond-false}
 use Rattle.lock.specs.declared.boards.Boards.{Boards}
 use Rattle.lock.specs.declared.station.Call.{Call}
 use Rattle.lock.specs.declared.station.Call.TheVariants.{Start, Step, Leave, Pull}
-use Rattle.lock.specs.declared.station.Station.TheVariants.{Out as Outside, Trying, Inside as Within, Leaving as Going}
+use Rattle.lock.specs.declared.station.Station.TheVariants.{Inside as Within}
 use Rattle.lock.specs.Order.{Leaves}
 use Rattle.lock.specs.Runs.{run, Sometime, Each}
-use Rattle.lock.specs.Stations.{among, at, accepted, Stands}
+use Rattle.lock.specs.Stations.{among, accepted, Stands}
 use Rattle.lock.proofs.Stations.{start_accepted, out≢trying, trying≢inside}
 use Rattle.lock.proofs.Runs.{run_more}
 use Rattle.service.specs.declared.progress.Progress.{Progress}
@@ -15,16 +15,16 @@ use Rattle.service.specs.declared.progress.Progress.TheVariants.{Idle, Working, 
 use Rattle.service.specs.declared.refusal.Refusal.{Refusal}
 use Rattle.service.specs.declared.standing.Standing.{Standing}
 use Rattle.service.specs.declared.standing.Standing.TheVariants.{Out, Doorway, Waiting, Inside, Leaving}
-use Rattle.service.specs.History.{Entry, Asked, Stepped, Pulled, History, station, waiting, ahead, ahead_ask, ahead_step, ahead_pull, asked, difference, since_entry, after_step, bits}
+use Rattle.service.specs.History.{Asked, Stepped, Pulled, History, station, waiting, ahead, ahead_step, asked, difference, since_entry, after_step, bits}
 use Rattle.service.specs.Law.{StepAt, Rightly}
 use Rattle.service.specs.Records.{is_waiting}
-use Rattle.service.specs.Rule.{Lockwork, there, step_leaves, trace, Given}
+use Rattle.service.specs.Rule.{Lockwork, step_leaves, trace, Given}
 use Rattle.service.proofs.Reached.{Keeps, may_start}
 use Rattle.service.proofs.Says.{same_cond, says_other, says_step, says_no_ask, says_no_step, says_no_pull}
 use Rattle.service.proofs.Agrees.{as_lock, Agrees, known}
 use Rattle.service.proofs.Answered.{ask_ok, agrees, answers}
 use Rattle.service.proofs.Did.{did}
-use Rattle.service.proofs.Served.{sometime_more, each_more, step_lock}
+use Rattle.service.proofs.Served.{sometime_more, each_more}
 
 from_waiting : (s : Standing) → is_waiting s ≡ true → s ≡ Waiting
 from_waiting Out e = let z : ◌≡◌ {A = ℕ} 0 1 = cc in absurd (omega arith)

@@ -1,15 +1,15 @@
 -- The laws of an ordered lock, at a state that calls on a new one lead to.
-use Rattle.std.proofs.Common.{◌≡◌, ℕ, ◌-◌, ◌≤◌, Bool, true, false, ◌⊎◌, List, [], ◌∷◌, ◌++◌, length, Ok, Err, Result, sym, ap, ◌∙◌, subst, inl, inr}
+use Rattle.std.proofs.Common.{◌≡◌, ℕ, ◌-◌, ◌≤◌, true, false, ◌⊎◌, List, [], ◌∷◌, ◌++◌, length, Ok, sym, ap, ◌∙◌, subst, inl, inr}
 use Rattle.std.proofs.lemmas.Bool.{cases_Bool}
 use Rattle.std.proofs.lemmas.List.{length-set}
 use Rattle.lock.specs.declared.boards.Boards.{Boards}
 use Rattle.lock.specs.declared.station.Call.{Call}
-use Rattle.lock.specs.declared.station.Call.TheVariants.{Start, Step, Leave, Pull}
+use Rattle.lock.specs.declared.station.Call.TheVariants.{Start, Leave, Pull}
 use Rattle.lock.specs.declared.station.Station.{Station}
-use Rattle.lock.specs.declared.station.Station.TheVariants.{Out, Trying, Inside, Leaving}
+use Rattle.lock.specs.declared.station.Station.TheVariants.{Out, Trying, Inside}
 use Rattle.lock.specs.Order.{InOrder, WaitsTrying, OwnDoorway, Doorways}
 use Rattle.lock.specs.Runs.{run, AllOut, CallsMove, Exclusive, EntersWithin}
-use Rattle.lock.specs.Stations.{board, at, with, told, accepted, Stands, AtMostOne, Moves}
+use Rattle.lock.specs.Stations.{board, at, told, accepted, Stands, AtMostOne, Moves}
 use Rattle.lock.proofs.Stations.{among_from, board_there, moved_to, other_with}
 use Rattle.lock.proofs.Runs.{run_more}
 use Rattle.service.specs.Rule.{Lockwork}

@@ -1,5 +1,5 @@
 -- What a history says of one board, call by call.
-use Rattle.std.proofs.Common.{◌≡◌, ℕ, Bool, true, false, cond, eqb, List, [], ◌∷◌, Ok, Err, Result, sym, refl, ap, ◌∙◌}
+use Rattle.std.proofs.Common.{◌≡◌, ℕ, Bool, true, false, cond, ◌∷◌, Err, Result, refl}
 use Rattle.std.proofs.lemmas.Bool.{eq-eqb, ne_eqb}
 use Rattle.service.specs.declared.progress.Progress.{Progress}
 use Rattle.service.specs.declared.refusal.Refusal.{Refusal}

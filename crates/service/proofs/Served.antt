@@ -4,14 +4,14 @@ use Rattle.std.proofs.lemmas.Bool.{cases_lt, cases_eq, cases_Bool, eq-eqb, ne_eq
 use Rattle.lock.specs.declared.boards.Boards.{Boards}
 use Rattle.lock.specs.declared.station.Call.{Call}
 use Rattle.lock.specs.declared.station.Call.TheVariants.{Start, Step}
-use Rattle.lock.specs.declared.station.Station.TheVariants.{Out as Outside, Trying, Inside as Within, Leaving as Going}
+use Rattle.lock.specs.declared.station.Station.TheVariants.{Trying, Inside as Within}
 use Rattle.lock.specs.Runs.{run, Sometime, Each, OthersOut, steps}
 use Rattle.lock.specs.Runs.{Spares as LockSpares, own as own_call}
 use Rattle.lock.specs.Stations.{among, at, told, accepted, Stands}
 use Rattle.lock.proofs.Stations.{among_from, own_same, out≢trying, out≢inside, trying≢inside}
 use Rattle.lock.proofs.Runs.{run_more}
 use Rattle.service.specs.declared.progress.Progress.{Progress}
-use Rattle.service.specs.declared.progress.Progress.TheVariants.{Idle, Working, Passed, Entered, Shown, CameOut}
+use Rattle.service.specs.declared.progress.Progress.TheVariants.{Idle, Working, Passed, Entered}
 use Rattle.service.specs.declared.record.Stage.{Stage}
 use Rattle.service.specs.declared.record.Stage.TheVariants.{Arrived, StartPut, StopPut, StartTaken, StopTaken}
 use Rattle.service.specs.declared.refusal.Refusal.{Refusal}

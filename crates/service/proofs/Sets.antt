@@ -1,7 +1,7 @@
 -- The sets ahead that the analyser keeps are those of the history.
-use Rattle.std.proofs.Common.{◌≡◌, ℕ, zero, suc, ◌-◌, ◌<◌, ◌≤◌, Bool, true, false, cond, ◌&&◌, eqb, leb, ◌≢◌, ◌⊎◌, List, [], ◌∷◌, map, length, get_or, set, replicate, Ok, Err, Result, sym, refl, ap, ◌∙◌, subst, inl, inr, arith}
+use Rattle.std.proofs.Common.{◌≡◌, ℕ, zero, suc, ◌-◌, ◌<◌, Bool, true, false, cond, ◌&&◌, eqb, leb, List, [], ◌∷◌, length, get_or, set, replicate, Ok, Err, Result, sym, refl, ap, ◌∙◌, subst, inl, inr, arith}
 use Rattle.std.proofs.lemmas.Bool.{cases_Bool, cases_eq, eq-eqb, ne_eqb, cond-true, cond-false}
-use Rattle.std.proofs.lemmas.List.{length-set, length-map, length-replicate, get_or-map, get_or-set_same, get_or-set_other, get_or-replicate}
+use Rattle.std.proofs.lemmas.List.{length-set, length-map, get_or-map, get_or-set_same, get_or-set_other, get_or-replicate}
 use Rattle.lock.specs.declared.boards.Boards.{Boards}
 use Rattle.lock.specs.Most.{most}
 use Rattle.lock.specs.Stations.{among}
@@ -10,10 +10,10 @@ use Rattle.service.specs.declared.progress.Progress.{Progress}
 use Rattle.service.specs.declared.progress.Progress.TheVariants.{Idle, Working, Passed, Entered, Shown, CameOut}
 use Rattle.service.specs.declared.refusal.Refusal.{Refusal}
 use Rattle.service.specs.declared.refusal.Refusal.TheVariants.{NoSuchBoard}
-use Rattle.service.specs.History.{Entry, Asked, Stepped, Pulled, History, station, waiting, ahead, ahead_ask, ahead_step, ahead_pull, ahead_at, bits, set_ahead}
+use Rattle.service.specs.History.{Asked, Stepped, Pulled, History, station, waiting, ahead, ahead_step, ahead_at, bits, set_ahead}
 use Rattle.service.specs.Law.{Rightly}
 use Rattle.service.specs.Records.{waits}
-use Rattle.service.specs.Rule.{Lockwork, View, marked, waiting_now, there, own, ahead_told, trace, Given}
+use Rattle.service.specs.Rule.{Lockwork, marked, waiting_now, ahead_told, trace, Given}
 use Rattle.service.proofs.Bits.{bits_same}
 use Rattle.service.proofs.Reached.{Keeps}
 use Rattle.service.proofs.Says.{same_cond}

@@ -1,5 +1,5 @@
 -- What an outsider sees: the calls with their answers, newest first. Nothing here names a field of the program.
-use Rattle.std.specs.Prelude.{ℕ, zero, suc, ◌+◌, ◌^◌, Bool, true, false, cond, List, [], ◌∷◌, ℤ, pos, ◌-ℤ◌, Some, None, Ok, Err, Option, Result, ◌==◌}
+use Rattle.std.specs.Prelude.{ℕ, zero, suc, ◌+◌, ◌^◌, Bool, false, cond, List, [], ◌∷◌, ℤ, pos, ◌-ℤ◌, Some, None, Ok, Err, Option, Result, ◌==◌}
 use Rattle.panel.specs.declared.display.Panel.{Panel}
 use Rattle.panel.specs.declared.reading.Reading.{Reading}
 use Rattle.panel.specs.Panels as panels

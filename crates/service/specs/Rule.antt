@@ -20,7 +20,7 @@ use Rattle.service.specs.declared.refusal.Refusal.{Refusal}
 use Rattle.service.specs.declared.refusal.Refusal.TheVariants.{NoSuchBoard}
 use Rattle.service.specs.declared.standing.Standing.{Standing}
 use Rattle.service.specs.declared.standing.Standing.TheVariants.{Out, Doorway, Waiting, Inside, Leaving}
-use Rattle.service.specs.History.{Entry, Asked, Stepped, Pulled, History, bits, ahead_at}
+use Rattle.service.specs.History.{Asked, Stepped, Pulled, History, bits, ahead_at}
 use Rattle.service.specs.Law.{ask_at, pull_at}
 use Rattle.service.specs.Records.{blank, given, gone, arrived, staged, waits}
 

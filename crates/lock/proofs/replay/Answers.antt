@@ -1,5 +1,5 @@
 -- A turn makes the first of the calls that are still to come.
-use Rattle.std.proofs.Common.{◌≡◌, sym, ap, ◌∙◌, subst}
+use Rattle.std.proofs.Common.{sym, ap, ◌∙◌, subst}
 use Rattle.std.proofs.lemmas.List.{drop_all}
 use Rattle.lock.specs.Stations.{AtMostOne}
 use Rattle.lock.specs.Runs.{run}

@@ -1,5 +1,5 @@
 -- Each turn answers one event.
-use Rattle.std.proofs.Common.{◌≡◌, ◌+◌, ◌-◌, ◌<◌, ◌≤◌, map, length, drop, set, sym, refl, ap, ◌∙◌, subst, arith}
+use Rattle.std.proofs.Common.{◌+◌, map, length, drop, set, sym, ap, ◌∙◌, arith}
 use Rattle.std.proofs.lemmas.List.{drop_all, length-set}
 use Rattle.filling.specs.Lists.{free_places}
 use Rattle.service.specs.declared.event.Event.TheVariants.{Ask}

@@ -1,5 +1,5 @@
 -- The calls of a run on a new analyser are its whole history.
-use Rattle.std.proofs.Common.{◌≡◌, true, false, [], map, reverse, is_ok, sym, ap, ◌∙◌, subst}
+use Rattle.std.proofs.Common.{◌≡◌, [], map, reverse, is_ok, sym, ap, ◌∙◌, subst}
 use Rattle.std.proofs.lemmas.List.{append-nil}
 use Rattle.std.proofs.lemmas.Bool.{true≢false}
 use Rattle.service.specs.History.{answer_of, panel_of}

@@ -1,5 +1,5 @@
 -- A place is noted, or passed by.
-use Rattle.std.proofs.Common.{◌≡◌, ◌<◌, ◌≤◌, length, sym, ◌∙◌, arith}
+use Rattle.std.proofs.Common.{◌<◌, ◌≤◌, length, sym, ◌∙◌, arith}
 use Rattle.queue.proofs.Notes.{found_here, not_here, none_left}
 use Rattle.queue.proofs.rule.lowest_noted.Goals as goal
 

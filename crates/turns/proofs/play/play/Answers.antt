@@ -1,7 +1,7 @@
 -- A turn adds the row of the next call; at the end none is still to come.
-use Rattle.std.proofs.Common.{◌≡◌, true, List, [], ◌∷◌, ◌++◌, is_err, vec_items, sym, ap, ◌∙◌, append-nil, rules}
+use Rattle.std.proofs.Common.{◌++◌, vec_items, sym, ap, ◌∙◌, append-nil}
 use Rattle.std.proofs.lemmas.List.{drop_all}
-use Rattle.std.proofs.lemmas.Result.{IfOk-from_err, err_from_is_err_and}
+use Rattle.std.proofs.lemmas.Result.{err_from_is_err_and}
 use Rattle.turns.specs.Rows.{rows_of}
 use Rattle.turns.proofs.Played.{one_more, one_inside}
 use Rattle.turns.proofs.play.play.Goals as goal

@@ -1,5 +1,5 @@
 -- The sets by board, with one of them new.
-use Rattle.std.proofs.Common.{◌≡◌, ◌-◌, refl, ap}
+use Rattle.std.proofs.Common.{◌-◌, refl, ap}
 use Rattle.std.proofs.lemmas.List.{map-set}
 use Rattle.service.specs.Rule.{with_sets}
 use Rattle.analyser.specs.Service.{view}

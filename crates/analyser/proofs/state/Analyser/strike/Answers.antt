@@ -1,5 +1,5 @@
 -- The sets by board, each without the board that is struck off.
-use Rattle.std.proofs.Common.{◌≡◌, ◌-◌, false, map, set, sym, refl, ap, ◌∙◌}
+use Rattle.std.proofs.Common.{◌-◌, false, set, sym, refl, ap, ◌∙◌}
 use Rattle.std.proofs.lemmas.Simd.{map-map}
 use Rattle.service.specs.Rule.{with_sets}
 use Rattle.analyser.specs.Desks.{struck}

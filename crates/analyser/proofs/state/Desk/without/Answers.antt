@@ -1,5 +1,5 @@
 -- Each turn strikes the board off one set.
-use Rattle.std.proofs.Common.{◌≡◌, ◌<◌, ◌≤◌, [], ◌++◌, map, length, get_or, take, drop, set, ap, ◌∙◌, append-nil, arith}
+use Rattle.std.proofs.Common.{◌<◌, ◌≤◌, [], ◌++◌, map, length, get_or, drop, set, ap, ◌∙◌, append-nil, arith}
 use Rattle.std.proofs.lemmas.List.Edits.{map_over_more}
 use Rattle.std.proofs.lemmas.List.{take_all, drop_all, get_or_default, length-set}
 use Rattle.analyser.specs.Desks.{struck}

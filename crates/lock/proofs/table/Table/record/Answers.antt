@@ -1,5 +1,5 @@
 -- The record that is read is the board's.
-use Rattle.std.proofs.Common.{◌≡◌, true, sym, ap, ◌∙◌}
+use Rattle.std.proofs.Common.{◌≡◌, true, sym, ◌∙◌}
 use Rattle.lock.specs.Tables.{kept_for}
 use Rattle.lock.proofs.Tables.{asked_there}
 use Rattle.lock.proofs.table.Table.record.Goals as goal

@@ -1,5 +1,5 @@
 -- The station of a board, by its phase and its station below.
-use Rattle.std.proofs.Common.{◌≡◌, Ok, Err, sym, ap, ◌∙◌}
+use Rattle.std.proofs.Common.{Ok, Err, sym, ap, ◌∙◌}
 use Rattle.std.proofs.lemmas.Result.{err_from_is_err_and}
 use Rattle.line.specs.declared.Line.TheVariants.{Low}
 use Rattle.queue.specs.declared.state.Phase.TheVariants.{Out}

@@ -1,5 +1,5 @@
 -- Each turn gives one line its new level.
-use Rattle.std.proofs.Common.{◌≡◌, ℕ, ◌<◌, ◌≤◌, List, ◌++◌, map, length, get_or, take, drop, set, sym, refl, ap, ◌∙◌, append-nil, arith}
+use Rattle.std.proofs.Common.{◌<◌, ◌≤◌, ◌++◌, map, length, get_or, drop, set, ap, ◌∙◌, append-nil, arith}
 use Rattle.std.proofs.lemmas.List.Edits.{map_over_more}
 use Rattle.std.proofs.lemmas.List.{take_all, drop_all, get_or_default, length-set}
 use Rattle.line.specs.declared.Line.TheVariants.{Low}
