@@ -4,7 +4,7 @@
 ghost use Rattle.std.specs.Prelude.{◌≡◌, ◌-◌, false, is_ok};
 ghost use Rattle.buyer.specs.Intervals.{told};
 ghost use Rattle.buyer.specs.Scale.{sum_scale};
-ghost use Rattle.std.proofs.Common.{rules, arith};
+ghost use Rattle.std.proofs.Common.{lit≤};
 
 mod latch;
 mod latch_lock;
@@ -25,7 +25,7 @@ impl Interpolator for Summed {
 
     ghost stop = { λ s. s.sum - s.start };
 
-    ghost bounded = { first_of (Prim.search rules, Prim.grind (arith, Self.row.coded.inj)) };
+    ghost bounded = { lit≤ tt };
 
     fn limit() -> u32 {
         Self::FULL_SCALE

@@ -2,7 +2,7 @@
 ghost use Rattle.std.specs.Prelude.{◌≡◌};
 ghost use Rattle.interpolator.specs.Counts.{put_answered};
 ghost use Rattle.interpolator.specs.Gaps.{gap_scale, stop_at};
-ghost use Rattle.std.proofs.Common.{rules, arith};
+ghost use Rattle.std.proofs.Common.{lit≤};
 
 use crate::Interpolator;
 use crate::gap::Gap;
@@ -28,7 +28,7 @@ impl Interpolator for Gap {
 
     ghost stop = { λ s. stop_at s.start s.gap };
 
-    ghost bounded = { first_of (Prim.search rules, Prim.grind (arith, Self.row.coded.inj)) };
+    ghost bounded = { lit≤ tt };
 
     fn limit() -> u32 {
         Self::FULL_SCALE

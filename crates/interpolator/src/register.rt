@@ -1,5 +1,5 @@
 // The register kind: it keeps both counts.
-ghost use Rattle.std.proofs.Common.{rules};
+ghost use Rattle.std.proofs.Common.{lit≤};
 
 use crate::Interpolator;
 use crate::refusal::Refusal;
@@ -19,7 +19,7 @@ impl Interpolator for Register {
 
     ghost stop = { λ s. s.stop };
 
-    ghost bounded = { Prim.search rules };
+    ghost bounded = { lit≤ tt };
 
     fn limit() -> u32 {
         Self::FULL_SCALE
