@@ -17,8 +17,8 @@ pub use register::Register;
 
 // Two counts, both 0 when new. Putting one changes that one only; taking one tells it and changes nothing.
 pub trait Interpolator: Sized {
-    // The full scale: the greatest count that can be put. No clause can name it, so `scale` stands
-    // for it there, and `limit` tells it to code that knows the trait alone.
+    // The full scale: the greatest count that can be put. The clauses say `scale` for it, and `limit`
+    // tells it to code that knows the trait alone.
     const FULL_SCALE: u32;
 
     ghost scale: { ℕ };

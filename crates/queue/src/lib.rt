@@ -242,19 +242,19 @@ impl<L: Lock> Lock for Queue<L> {
 
     ghost settle = { λ n. 2 + L.Lock.settle n };
 
-    ghost begins = { let D = L.Lock in let M = L.Lock in all_out D.fresh D.after D.stations M.begins M.moves };
+    ghost begins = { let D = L.Lock in all_out D.fresh D.after D.stations D.begins D.moves };
 
-    ghost moves = { let D = L.Lock in let M = L.Lock in
-        calls_move (new_queue D.fresh) (queue_after D.after D.stations) (shown D.stations) (Good D.fresh D.after D.stations M.begins M.moves)
-        (calls D.fresh D.after D.stations M.begins M.moves) };
+    ghost moves = { let D = L.Lock in
+        calls_move (new_queue D.fresh) (queue_after D.after D.stations) (shown D.stations) (Good D.fresh D.after D.stations D.begins D.moves)
+        (calls D.fresh D.after D.stations D.begins D.moves) };
 
-    ghost excludes = { let D = L.Lock in let M = L.Lock in
-        exclusive (new_queue D.fresh) (queue_after D.after D.stations) (shown D.stations) (Good D.fresh D.after D.stations M.begins M.moves)
-        (calls D.fresh D.after D.stations M.begins M.moves) };
+    ghost excludes = { let D = L.Lock in
+        exclusive (new_queue D.fresh) (queue_after D.after D.stations) (shown D.stations) (Good D.fresh D.after D.stations D.begins D.moves)
+        (calls D.fresh D.after D.stations D.begins D.moves) };
 
-    ghost enters = { let D = L.Lock in let M = L.Lock in enters_within D.fresh D.after D.stations M.begins M.moves D.alone M.enters };
+    ghost enters = { let D = L.Lock in enters_within D.fresh D.after D.stations D.begins D.moves D.alone D.enters };
 
-    ghost settles = { let D = L.Lock in let M = L.Lock in out_within D.fresh D.after D.stations M.begins M.moves D.settle M.settles };
+    ghost settles = { let D = L.Lock in out_within D.fresh D.after D.stations D.begins D.moves D.settle D.settles };
 
     fn new(boards: Boards) -> Queue<L> {
         Queue {
@@ -290,13 +290,13 @@ impl<L: Lock> Ordered for Queue<L> {
 
     ghost doorway = { λ n. 4 * n - 2 };
 
-    ghost tries = { let D = L.Lock in let M = L.Lock in waits_trying D.fresh D.after D.stations M.begins M.moves };
+    ghost tries = { let D = L.Lock in waits_trying D.fresh D.after D.stations D.begins D.moves };
 
-    ghost doorways = { let D = L.Lock in let M = L.Lock in Doors.doorways D.fresh D.after D.stations M.begins M.moves };
+    ghost doorways = { let D = L.Lock in Doors.doorways D.fresh D.after D.stations D.begins D.moves };
 
-    ghost order = { let D = L.Lock in let M = L.Lock in in_order D.fresh D.after D.stations M.begins M.moves };
+    ghost order = { let D = L.Lock in in_order D.fresh D.after D.stations D.begins D.moves };
 
-    ghost passes = { let D = L.Lock in let M = L.Lock in passes_within D.fresh D.after D.stations M.begins M.moves };
+    ghost passes = { let D = L.Lock in passes_within D.fresh D.after D.stations D.begins D.moves };
 
     fn waiting(&self, board: u8) -> Result<bool, Refusal> {
         let own = self.doors.record(board)?;
