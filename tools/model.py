@@ -1,8 +1,8 @@
 #!/usr/bin/env python3
-"""A second model of the rules of the one-bit lock, the cell lock and the queue layer.
+"""A second model of the rules of the one-bit lock, the cell lock, the queue layer and the analyser in service.
 
 It shares no text with the code or its definitions, but has the same authors. `tools/model.py drill` writes what the program `drill` has to write,
-crates/drill/stdout, and `tools/model.py turns` what the program `turns` has to write, crates/turns/stdout.
+crates/drill/stdout, and likewise `tools/model.py turns` and `tools/model.py session`.
 """
 import re
 import sys
@@ -124,6 +124,29 @@ class Cell(Lock):
     left = pulled = started
 
 
+class Latch(Lock):
+    """The latch lock of a buyer: to set the latch and to go inside are two steps."""
+
+    def __init__(self, n):
+        super().__init__(n)
+        self.latch = None
+
+    def step(self, b, bit):
+        if self.station[b] == 'leaving':
+            if self.latch == b:
+                self.latch = None
+            self.station[b] = 'out'
+        elif self.latch == b:
+            self.station[b] = 'inside'
+        elif self.latch is None:
+            self.latch = b
+
+    def started(self, b):
+        pass
+
+    left = pulled = started
+
+
 class Queue(Lock):
     """The queue layer over a lock of another class."""
 
@@ -224,6 +247,90 @@ class Queue(Lock):
         return at if at != 'trying' else 'waiting' if self.passed[b] else 'doorway'
 
 
+class Analyser:
+    """Boards in service at one interpolator, over the queue layer on a lock. A call returns sign, number and value."""
+
+    def __init__(self, n, low, full):
+        self.lock, self.full = Queue(n, low), full
+        self.station = {b: 'out' for b in range(1, n + 1)}
+        self.asked = {}
+        self.ahead = {b: set() for b in self.station}
+        self.inside = {}
+        self.put = {'start': 0, 'stop': 0}
+        self.shown, self.repaints = None, 0
+
+    def stay(self, b):
+        """What a board does inside, a step each; the last shows its number."""
+        start, stop = self.asked[b]
+        self.put['start'] = start
+        yield
+        self.put['stop'] = stop
+        yield
+        first = self.put['start']
+        yield
+        second = self.put['stop']
+        yield
+        yield second - first
+
+    def strike(self, b):
+        for behind in self.ahead.values():
+            behind.discard(b)
+
+    def ask(self, b, start, stop):
+        if b not in self.station:
+            return '-', 1, 0
+        if self.station[b] != 'out':
+            return '-', 2, 0
+        if max(start, stop) > self.full:
+            return '-', 3, 0
+        assert self.lock.call('start', b) == 0
+        self.asked[b] = start, stop
+        self.ahead[b] = {j for j in self.station if self.station[j] == 'waiting'}
+        self.station[b] = 'doorway'
+        return '+', 0, self.told(b)
+
+    def pull(self, b):
+        if b not in self.station:
+            return '-', 1, 0
+        if self.station[b] in ('out', 'leaving'):
+            return '-', 4, 0
+        assert self.lock.call('pull', b) == 0
+        self.strike(b)
+        self.station[b] = 'leaving'
+        return '+', 0, 0
+
+    def step(self, b, bit):
+        if b not in self.station:
+            return '-', 1, 0
+        was = self.station[b]
+        if was == 'inside':
+            number = next(self.inside[b])
+            if number is None:
+                return '+', 1, 0
+            assert self.lock.call('leave', b) == 0
+            self.station[b] = 'leaving'
+            if self.shown is None or self.shown[1] != number:
+                self.repaints += 1
+            self.shown = b, number
+            return '+', 4, number
+        if was == 'out':
+            return '+', 0, 0
+        self.lock.call('step', b, bit)
+        now = self.lock.standing(b)
+        if now == was:
+            return '+', 1, 0
+        self.station[b] = now
+        if now == 'inside':
+            assert not self.ahead[b]
+            self.strike(b)
+            self.inside[b] = self.stay(b)
+        return '+', {'waiting': 2, 'inside': 3, 'out': 5}[now], 0
+
+    def told(self, b):
+        """The set ahead of a board, as a number."""
+        return sum(2 ** (j - 1) for j in self.ahead[b]) if self.station[b] in ('doorway', 'waiting') else 0
+
+
 def drill():
     signs = {'low': '_', 'rising': '/', 'high': '^', 'falling': '\\'}
     letters = {'out': 'o', 'trying': 't', 'inside': 'I', 'leaving': 'l'}
@@ -273,4 +380,32 @@ def turns():
         print(f"{name:<5}  {b:>5}  {times:>5}  {refused:>7}  " + '  '.join(f'{lock.standing(j):<7}' for j in (1, 2, 3)))
 
 
-{'drill': drill, 'turns': turns}[sys.argv[1]]()
+def session():
+    source = (Path(__file__).parent.parent / 'crates/session/src/main.rt').read_text()
+    number = r'([\d_]+)'
+    event = rf'Event::(\w+) \{{\s*board: {number},?\s*(?:start: {number},\s*stop: {number},\s*|bit: (\w+),\s*)?\}},\s*{number},?\s*\)'
+    for title, name, low, full in (
+        ('One-bit lock and register', 'BENCH', OneBit, 2**32 - 1),
+        ('\nA buyer\'s latch lock and interpolator', 'BUYER', Latch, 10**8 - 1),
+    ):
+        print(title)
+        print(' no  call answer     value  board 1 board 2 board 3  ahead  panel: board, number, repaints')
+        analyser = Analyser(3, low, full)
+        no = 0
+        for kind, board, start, stop, bit, times in re.findall(event, source.split(f'const {name}:')[1].split('];')[0]):
+            for _ in range(int(times)):
+                no += 1
+                b = int(board)
+                if kind == 'Ask':
+                    sign, told, value = analyser.ask(b, int(start), int(stop))
+                elif kind == 'Step':
+                    sign, told, value = analyser.step(b, int(bit == 'true'))
+                else:
+                    sign, told, value = analyser.pull(b)
+                stations = ' '.join(f'{analyser.station[j]:<7}' for j in (1, 2, 3))
+                sets = ' '.join(str(analyser.told(j)) for j in (1, 2, 3))
+                by, shown = analyser.shown or (0, 0)
+                print(f'{no:>3}  {kind[0]} {b}  {sign}{told}  {value:>11}  {stations}  {sets}  {by} {shown:>11} {analyser.repaints}')
+
+
+{'drill': drill, 'turns': turns, 'session': session}[sys.argv[1]]()
