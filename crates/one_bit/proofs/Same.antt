@@ -17,10 +17,11 @@ use Rattle.one_bit.specs.Rule.{high, fresh, shown, seat, flag_told, after}
 use Rattle.one_bit.specs.Sound.{fits, Raised, Fits, Apart}
 use Rattle.one_bit.specs.Seats.{from_shown}
 use Rattle.one_bit.specs.Steps.{never}
-use Rattle.one_bit.specs.Keeps.{Sound, after_sound, moves_at}
+use Rattle.one_bit.specs.Keeps.{Sound, after_sound, moves_at, raised}
 
-pub still_sound : (l : OneBit) (m : Lines) (c : Call) → m ≡ after l.lines c → Sound m
-still_sound l m c leaves = subst Sound (sym leaves) (after_sound l.lines c (l.fits, l.apart))
+pub still_sound : (l : OneBit) (m : Lines) (c : Call) → m ≡ after l.lines c → Raised m × Fits m × Apart m
+still_sound l m c leaves =
+    let sound = subst Sound (sym leaves) (after_sound l.lines c (l.fits, l.apart)) in (raised m sound.0, sound.0, sound.1)
 
 pub owes : (l : OneBit) (m : Lines) (c : Call) (r : Result Unit Refusal) → r ≡ answer (shown l.lines) c → m ≡ after l.lines c
     → (is_ok r ≡ true → Moves (shown l.lines) c (shown m)) × (is_ok r ≡ false → m ≡ l.lines)

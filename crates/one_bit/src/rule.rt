@@ -7,7 +7,7 @@ ghost use Rattle.lock.specs.Stations.{answer, told};
 ghost use Rattle.lock.specs.declared.station.Call.TheVariants.{Start, Step, Leave, Pull};
 ghost use Rattle.one_bit.specs.declared.lines.Place.TheVariants.{Leaving, Out};
 ghost use Rattle.one_bit.specs.Rule.{after, changed, flag_told, fresh, lowered, onward, put, read_on, seen, shown, station, stepped, wait_on};
-ghost use Rattle.one_bit.specs.Rule.{board as made, seat as seat-at};
+ghost use Rattle.one_bit.specs.Rule.{board as made, seat as seat_at};
 
 use crate::lines::{Board, Lines, Place};
 use line::{Level, Line};
@@ -151,7 +151,7 @@ impl Lines {
 
     // The board of this number; one that is not there is out, with its flag low.
     pub(crate) fn seat(&self, board: u8) -> Board
-        ensures { result ≡ seat-at self.now board }
+        ensures { result ≡ seat_at self.now board }
     {
         match self.table.record(board) {
             Ok(own) => own,

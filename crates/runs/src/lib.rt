@@ -5,7 +5,7 @@ ghost use Rattle.std.specs.Prelude.{◌≡◌, ◌+◌, ◌*◌, false, [], map,
 ghost use Rattle.analyser.specs.Service.{Leads, queued, view};
 ghost use Rattle.filling.specs.Lists.{free_places};
 ghost use Rattle.queue.specs.Rule.{over};
-ghost use Rattle.runs.specs.Runs.{Ran, Served, filled, numbered, readings as readings-in, run_answer};
+ghost use Rattle.runs.specs.Runs.{Ran, Served, filled, numbered, readings as readings_in, run_answer};
 ghost use Rattle.service.specs.History.{answer_of, painted, reading_of, step_reading};
 ghost use Rattle.service.specs.Rule.{lockwork, new_view};
 ghost use Rattle.service.specs.Runs.{after_all, grown, next, painted_all, replies, reply};
@@ -77,8 +77,8 @@ pub fn run<Q: Ordered, I: Interpolator>(
     ensures answers { MatchResult result (λ _. answers.new.places.now ≡ filled answers.old.places.now answers.old.len (numbered 0 (map answer_of (replies (lockwork Q.Lock Q.Ordered.own) I.Interpolator.scale (view Q.Lock.state I.Interpolator analyser.old) events.now)))) (λ _. answers.new ≡ answers.old) }
     ensures answers_len { MatchResult result (λ _. answers.new.len ≡ answers.old.len + length events.now) (λ _. answers.new.len ≡ answers.old.len) }
     ensures answers_lender { answers.new.places.ghost_name ≡ answers.old.places.ghost_name }
-    ensures readings { MatchResult result (λ _. readings.new.places.now ≡ filled readings.old.places.now readings.old.len (readings-in 0 (replies (lockwork Q.Lock Q.Ordered.own) I.Interpolator.scale (view Q.Lock.state I.Interpolator analyser.old) events.now))) (λ _. readings.new ≡ readings.old) }
-    ensures readings_len { MatchResult result (λ _. readings.new.len ≡ readings.old.len + length (readings-in 0 (replies (lockwork Q.Lock Q.Ordered.own) I.Interpolator.scale (view Q.Lock.state I.Interpolator analyser.old) events.now))) (λ _. readings.new.len ≡ readings.old.len) }
+    ensures readings { MatchResult result (λ _. readings.new.places.now ≡ filled readings.old.places.now readings.old.len (readings_in 0 (replies (lockwork Q.Lock Q.Ordered.own) I.Interpolator.scale (view Q.Lock.state I.Interpolator analyser.old) events.now))) (λ _. readings.new ≡ readings.old) }
+    ensures readings_len { MatchResult result (λ _. readings.new.len ≡ readings.old.len + length (readings_in 0 (replies (lockwork Q.Lock Q.Ordered.own) I.Interpolator.scale (view Q.Lock.state I.Interpolator analyser.old) events.now))) (λ _. readings.new.len ≡ readings.old.len) }
     ensures readings_lender { readings.new.places.ghost_name ≡ readings.old.places.ghost_name }
     ensures law { OnOk result (Ran (lockwork Q.Lock Q.Ordered.own) Q.Lock.state I.Interpolator analyser.old events.now analyser.new) }
 {

@@ -1,13 +1,12 @@
 -- The rule keeps flags and places sound, and a refused call changes nothing.
 use Rattle.lock.specs.declared.station.Call.TheVariants.{Step}
-use Rattle.one_bit.specs.Keeps.{raised}
 use Rattle.one_bit.proofs.Same.{still_sound, owes, same_lock}
 use Rattle.one_bit.proofs.OneBitLock.step.Goals as goal
 
 pub invariant_of-self : goal.invariant_of-self
 invariant_of-self c =
     let sound = still_sound c.args.self.now c.step.new.self (Step c.args.board c.args.bit) c.step.ensures.leaves in
-    record { raised = raised c.step.new.self sound.0; fits = sound.0; apart = sound.1 }
+    record { raised = sound.0; fits = sound.1; apart = sound.2 }
 
 pub returns : goal.returns
 returns c =
