@@ -22,10 +22,10 @@ use reply::Reply;
 use service::{Answer, Event, Progress, Refusal};
 
 // The reading that a step put on the panel.
-fn shown(board: u8, res: Result<Progress, Refusal>) -> Option<Reading>
-    ensures { result ≡ step_reading board res }
+fn shown(board: u8, told: Result<Progress, Refusal>) -> Option<Reading>
+    ensures { result ≡ step_reading board told }
 {
-    match res {
+    match told {
         Ok(Progress::Shown(number)) => Some(Reading::new(board, number)),
         _ => None,
     }

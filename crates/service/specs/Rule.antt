@@ -1,5 +1,5 @@
 -- What each call does, on what matters of an analyser: its boards, its lock, the interpolator's two counts, the records, the sets ahead.
-use Rattle.std.specs.Prelude.{◌≡◌, ℕ, ◌-◌, Bool, true, false, cond, ◌&&◌, List, [], ◌∷◌, map, length, set, replicate, pos, ◌-ℤ◌, Ok, Err, Result, nat_le, slice_index_or, slice_set}
+use Rattle.std.specs.Prelude.{◌≡◌, ℕ, ◌-◌, Bool, true, false, cond, ◌&&◌, List, [], ◌∷◌, map, length, replicate, pos, ◌-ℤ◌, Ok, Err, Result, nat_le, slice_index_or, slice_set}
 use Rattle.interpolator.specs.Counts.{put}
 use Rattle.lock.specs.declared.Lock as lock
 use Rattle.lock.specs.declared.Ordered as ordered
@@ -80,7 +80,7 @@ module _ {S : Type 0} where
 
   -- board j stands ahead of nobody any more
   abbrev pub struck : View S → ℕ → View S
-  struck v j = with_sets v (map (λ row. set row (j - 1) false) v.sets)
+  struck v j = with_sets v (map (λ row. slice_set row (j - 1) false) v.sets)
 
   abbrev pub there : View S → ℕ → Bool
   there v b = among v.boards.count b

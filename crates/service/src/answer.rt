@@ -45,10 +45,10 @@ impl Answer {
     }
 
     // The answer to an ask.
-    pub fn of_ask(board: u8, res: Result<u32, Refusal>) -> Answer
-        ensures { result ≡ of_ask board res }
+    pub fn of_ask(board: u8, told: Result<u32, Refusal>) -> Answer
+        ensures { result ≡ of_ask board told }
     {
-        match res {
+        match told {
             Ok(ahead) => Answer {
                 letter: Letter::A,
                 board,
@@ -61,10 +61,10 @@ impl Answer {
     }
 
     // The answer to a step.
-    pub fn of_step(board: u8, res: Result<Progress, Refusal>) -> Answer
-        ensures { result ≡ of_step board res }
+    pub fn of_step(board: u8, told: Result<Progress, Refusal>) -> Answer
+        ensures { result ≡ of_step board told }
     {
-        match res {
+        match told {
             Ok(progress) => Answer {
                 letter: Letter::S,
                 board,
@@ -80,10 +80,10 @@ impl Answer {
     }
 
     // The answer to a pull.
-    pub fn of_pull(board: u8, res: Result<(), Refusal>) -> Answer
-        ensures { result ≡ of_pull board res }
+    pub fn of_pull(board: u8, told: Result<(), Refusal>) -> Answer
+        ensures { result ≡ of_pull board told }
     {
-        match res {
+        match told {
             Ok(()) => Answer {
                 letter: Letter::P,
                 board,
