@@ -1,14 +1,14 @@
 // The table of an analyser: the boards' records, and the sets ahead.
-ghost use Rattle.std.specs.Prelude.{◌≡◌, ◌-◌, ◌≤◌, false, map, set, replicate};
+ghost use Rattle.std.specs.Prelude.{◌≡◌, map, replicate};
 ghost use Rattle.lock.specs.Most.{most};
 ghost use Rattle.service.specs.History.{bits};
 ghost use Rattle.service.specs.Records.{blank, waits};
 ghost use Rattle.service.specs.Rule.{marked};
-ghost use Rattle.analyser.specs.Desks.{none, struck};
+ghost use Rattle.analyser.specs.Desks.{none, noted, struck};
 
 use crate::state::{Ahead, Desk};
-use lock::{Boards, MAX_BOARDS};
-use service::Record;
+use lock::{Boards, MAX_BOARDS, Seat};
+use service::{Progress, Record, Standing};
 
 impl Ahead {
     // Nobody.
@@ -21,26 +21,23 @@ impl Ahead {
     }
 
     // The same boards without one.
-    fn without(self, board: u8) -> Ahead
-        requires { (1 ≤ board) × (board ≤ most) }
-        ensures { result ≡ struck board self }
+    fn without(self, seat: Seat) -> Ahead
+        ensures { result ≡ struck seat.board self }
     {
         let mut marks = self.marks;
-        marks[board as usize - 1] = false;
+        marks[seat.place()] = false;
         Ahead { marks }
     }
 
     // The set as a number: bit j - 1 stands for board j.
     pub(crate) fn number(self, boards: Boards) -> u32
-        ensures { result ≡ bits (marked self.marks) boards.count }
+        ensures { result ≡ bits (marked self) boards.count }
     {
         let mut number = 0;
-        let mut bit = 1;
-        for j in 0..usize::from(boards.count()) {
-            if self.marks[j] {
-                number += bit;
+        for (j, mark) in self.marks[..usize::from(boards.count())].iter().enumerate() {
+            if *mark {
+                number += 1 << j;
             }
-            bit *= 2;
         }
         number
     }
@@ -59,24 +56,35 @@ impl Desk {
 
     // The boards that are waiting now.
     pub(crate) fn waiting(self) -> Ahead
-        ensures { result.marks ≡ map waits self.records }
+        ensures { result ≡ map waits self.records }
     {
-        let mut marks = [false; MAX_BOARDS];
-        for (j, record) in self.records.iter().enumerate() {
-            marks[j] = record.waits();
+        Ahead {
+            marks: self.records.map(|record| record.waits()),
         }
-        Ahead { marks }
     }
 
-    // The same table with a board that stands ahead of nobody any more.
-    pub(crate) fn without(self, board: u8) -> Desk
-        requires { (1 ≤ board) × (board ≤ most) }
-        ensures { result ≡ record { records = self.records; sets = map (struck board) self.sets } }
+    // A board stands ahead of nobody any more.
+    pub(crate) fn strike(&mut self, seat: Seat)
+        ensures { self.new ≡ record { records = self.old.records; sets = map (struck seat.board) self.old.sets } }
     {
-        let mut sets = self.sets;
-        for ahead in sets.iter_mut() {
-            *ahead = ahead.without(board);
+        for ahead in self.sets.iter_mut() {
+            *ahead = ahead.without(seat);
         }
-        Desk { sets, ..self }
+    }
+
+    // What a board's step has come to is noted.
+    pub(crate) fn note(&mut self, seat: Seat, progress: Progress)
+        ensures { self.new ≡ noted self.old seat.board progress }
+    {
+        match progress {
+            Progress::Passed => self.records[seat.place()].go(Standing::Waiting),
+            Progress::Entered => {
+                self.records[seat.place()].enter();
+                // at once, and not only when it leaves
+                self.strike(seat);
+            }
+            Progress::CameOut => self.records[seat.place()].go(Standing::Out),
+            _ => {}
+        }
     }
 }

@@ -24,13 +24,16 @@ mod state;
 
 pub use state::{Ahead, Analyser, Desk};
 
+// In the clauses `lockwork Q.Lock Q.Ordered.own` is the lock by its rule, `I.Interpolator.FULL_SCALE` the full scale, and `view ..` of
+// an analyser what matters of it. They are written out each time, since no definition can name the lock and the interpolator of
+// a bound.
 impl<Q: Ordered, I: Interpolator> Analyser<Q, I> {
     // A new analyser of so many boards, with a new lock and a new interpolator.
     fn over(boards: Boards) -> Analyser<Q, I>
         ensures boards { result.boards ≡ boards }
         ensures panel { result.panel ≡ blank }
         ensures leads { Leads (lockwork Q.Lock Q.Ordered.own) Q.Lock.state I.Interpolator boards [] result }
-        ensures law { (es : List Event) → Lawful boards.count I.Interpolator.scale (showing (lockwork Q.Lock Q.Ordered.own) boards.count) (grown (lockwork Q.Lock Q.Ordered.own) I.Interpolator.scale (new_view (lockwork Q.Lock Q.Ordered.own) I.Interpolator.scale boards) [] es) }
+        ensures law { (es : List Event) → Lawful boards.count I.Interpolator.FULL_SCALE (showing (lockwork Q.Lock Q.Ordered.own) boards.count) (grown (lockwork Q.Lock Q.Ordered.own) I.Interpolator.FULL_SCALE (new_view (lockwork Q.Lock Q.Ordered.own) I.Interpolator.FULL_SCALE boards) [] es) }
     {
         Analyser {
             boards,
@@ -44,8 +47,8 @@ impl<Q: Ordered, I: Interpolator> Analyser<Q, I> {
     // A board asks for a stay, with its counts, and is told the set of boards ahead of it. Refused are a board that is not there,
     // one that is not out, and a count above full scale, in this order.
     pub fn ask(&mut self, board: u8, start: u32, stop: u32) -> Result<u32, Refusal>
-        ensures answers { result ≡ ask_answer (lockwork Q.Lock Q.Ordered.own) I.Interpolator.scale (view Q.Lock.state I.Interpolator self.old) board start stop }
-        ensures leaves { view Q.Lock.state I.Interpolator self.new ≡ ask_leaves (lockwork Q.Lock Q.Ordered.own) I.Interpolator.scale (view Q.Lock.state I.Interpolator self.old) board start stop result }
+        ensures answers { result ≡ ask_answer (lockwork Q.Lock Q.Ordered.own) I.Interpolator.FULL_SCALE (view Q.Lock.state I.Interpolator self.old) board start stop }
+        ensures leaves { view Q.Lock.state I.Interpolator self.new ≡ ask_leaves (lockwork Q.Lock Q.Ordered.own) I.Interpolator.FULL_SCALE (view Q.Lock.state I.Interpolator self.old) board start stop result }
         ensures panel { self.new.panel ≡ self.old.panel }
         ensures interpolator { self.new.interpolator ≡ self.old.interpolator }
         ensures kept { is_ok result ≡ false → self.new ≡ self.old }
@@ -57,8 +60,8 @@ impl<Q: Ordered, I: Interpolator> Analyser<Q, I> {
     // A board takes a step, with a bit for what it reads in change. At which step a waiting board goes inside, a leaving board comes
     // out and a doorway is passed is the lock's affair: the lock's own rule says it, and the law what holds of it.
     pub fn step(&mut self, board: u8, bit: bool) -> Result<Progress, Refusal>
-        ensures answers { result ≡ step_answer (lockwork Q.Lock Q.Ordered.own) I.Interpolator.scale (view Q.Lock.state I.Interpolator self.old) board bit }
-        ensures leaves { view Q.Lock.state I.Interpolator self.new ≡ step_leaves (lockwork Q.Lock Q.Ordered.own) I.Interpolator.scale (view Q.Lock.state I.Interpolator self.old) board bit }
+        ensures answers { result ≡ step_answer (lockwork Q.Lock Q.Ordered.own) I.Interpolator.FULL_SCALE (view Q.Lock.state I.Interpolator self.old) board bit }
+        ensures leaves { view Q.Lock.state I.Interpolator self.new ≡ step_leaves (lockwork Q.Lock Q.Ordered.own) I.Interpolator.FULL_SCALE (view Q.Lock.state I.Interpolator self.old) board bit }
         ensures panel { self.new.panel ≡ painted self.old.panel (step_reading board result) }
         ensures interpolator { puts (view Q.Lock.state I.Interpolator self.old) board ≡ false → self.new.interpolator ≡ self.old.interpolator }
         ensures kept { is_ok result ≡ false → self.new ≡ self.old }
@@ -69,8 +72,8 @@ impl<Q: Ordered, I: Interpolator> Analyser<Q, I> {
 
     // Ends a board's stay. Refused are a board that is not there, and one that is out or leaving.
     pub fn pull(&mut self, board: u8) -> Result<(), Refusal>
-        ensures answers { result ≡ pull_answer (lockwork Q.Lock Q.Ordered.own) I.Interpolator.scale (view Q.Lock.state I.Interpolator self.old) board }
-        ensures leaves { view Q.Lock.state I.Interpolator self.new ≡ pull_leaves (lockwork Q.Lock Q.Ordered.own) I.Interpolator.scale (view Q.Lock.state I.Interpolator self.old) board result }
+        ensures answers { result ≡ pull_answer (lockwork Q.Lock Q.Ordered.own) I.Interpolator.FULL_SCALE (view Q.Lock.state I.Interpolator self.old) board }
+        ensures leaves { view Q.Lock.state I.Interpolator self.new ≡ pull_leaves (lockwork Q.Lock Q.Ordered.own) I.Interpolator.FULL_SCALE (view Q.Lock.state I.Interpolator self.old) board result }
         ensures panel { self.new.panel ≡ self.old.panel }
         ensures interpolator { self.new.interpolator ≡ self.old.interpolator }
         ensures kept { is_ok result ≡ false → self.new ≡ self.old }
@@ -127,7 +130,7 @@ impl<L: Lock, I: Interpolator> Analyser<Queue<L>, I> {
         ensures boards { result.boards ≡ list.boards }
         ensures panel { result.panel ≡ blank }
         ensures leads { Leads (queued L.Lock) (over L.Lock.state) I.Interpolator list.boards [] result }
-        ensures law { (es : List Event) → Lawful list.boards.count I.Interpolator.scale (4 * list.boards.count + 4 + L.Lock.alone list.boards.count) (grown (queued L.Lock) I.Interpolator.scale (new_view (queued L.Lock) I.Interpolator.scale list.boards) [] es) }
+        ensures law { (es : List Event) → Lawful list.boards.count I.Interpolator.FULL_SCALE (4 * list.boards.count + 4 + L.Lock.alone list.boards.count) (grown (queued L.Lock) I.Interpolator.FULL_SCALE (new_view (queued L.Lock) I.Interpolator.FULL_SCALE list.boards) [] es) }
     {
         Analyser::over(list.boards())
     }

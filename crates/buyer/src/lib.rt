@@ -7,19 +7,17 @@ ghost use Rattle.buyer.specs.Scale.{sum_scale};
 ghost use Rattle.std.proofs.Common.{lit≤};
 
 mod latch;
-mod latch_lock;
 mod summed;
 
-use interpolator::{Interpolator, Refusal, within_scale};
-pub use latch::{Backplane, Latch};
-pub use latch_lock::LatchLock;
-use lock::Lock;
+pub use backplane::Backplane;
+use interpolator::{Interpolator, Refusal, judge, within_scale};
+pub use latch::{Latch, LatchLock};
 pub use summed::Summed;
 
 impl Interpolator for Summed {
     const FULL_SCALE: u32 = 99_999_999;
 
-    ghost scale = { sum_scale };
+    ghost FULL_SCALE = { sum_scale };
 
     ghost start = { λ s. s.start };
 
@@ -27,19 +25,13 @@ impl Interpolator for Summed {
 
     ghost bounded = { lit≤ tt };
 
-    fn limit() -> u32 {
-        Self::FULL_SCALE
-    }
-
     fn new() -> Summed {
         Summed { start: 0, sum: 0 }
     }
 
     // The sum moves with the start, so that the stop stays.
     fn put_start(&mut self, count: u32) -> Result<(), Refusal> {
-        if count > Self::FULL_SCALE {
-            return Err(Refusal::AboveFullScale);
-        }
+        judge(Self::FULL_SCALE, count)?;
         *self = Summed {
             start: count,
             sum: count + self.take_stop(),
@@ -48,9 +40,7 @@ impl Interpolator for Summed {
     }
 
     fn put_stop(&mut self, count: u32) -> Result<(), Refusal> {
-        if count > Self::FULL_SCALE {
-            return Err(Refusal::AboveFullScale);
-        }
+        judge(Self::FULL_SCALE, count)?;
         self.sum = self.start + count;
         Ok(())
     }
@@ -70,7 +60,7 @@ pub fn interval<I: Interpolator>(
     start: u32,
     stop: u32,
 ) -> Result<i64, Refusal>
-    ensures tells { result ≡ told I.Interpolator.scale start stop }
+    ensures tells { result ≡ told I.Interpolator.FULL_SCALE start stop }
     ensures kept { is_ok result ≡ false → interpolator.new ≡ interpolator.old }
 {
     within_scale::<I>(start)?;

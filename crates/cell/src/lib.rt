@@ -1,67 +1,46 @@
-// The cell lock keeps the meaning of a lock: S is 1 and E is 1.
+// The cell lock, for backplanes with one cell: S is 1 and E is 1.
 #![tactic(auto)]
 
-ghost use Rattle.cell.specs.Rule.{after, fresh, shown};
-ghost use Rattle.cell.specs.Keeps.{local, Good};
-ghost use Rattle.lock.proofs.Local.{calls_move, exclusive, enters_within, out_within};
-ghost use Rattle.cell.specs.Rule;
+ghost use Rattle.std.specs.Prelude.{false};
+ghost use Rattle.backplane.proofs.Taken.{spares};
+ghost use Rattle.backplane.specs.Rule.{taken};
+ghost use Rattle.cell.specs.Keeps.{holds, nears, waits, within};
+ghost use Rattle.cell.specs.Rule.{enters};
 
-mod cell_lock;
-mod plane;
-mod rule;
+pub use backplane::Backplane;
+use backplane::{HeldLock, Taking};
 
-pub use cell_lock::CellLock;
-use lock::{Boards, Lock, Refusal, Station};
-pub use plane::Backplane;
+// A trying board's step takes a free cell and goes inside, or finds it taken and stays trying.
+pub struct Cell;
 
-impl Lock for CellLock {
-    type State = Backplane;
+pub type CellLock = HeldLock<Cell>;
 
-    ghost state = { λ l. l.plane };
+impl Taking for Cell {
+    ghost tries = { taken };
 
-    ghost fresh = { fresh };
+    ghost enters = { enters };
 
-    ghost after = { after };
+    ghost early = { false };
 
-    ghost stations = { shown };
+    ghost to_enter = { λ h b. 1 };
 
-    ghost alone = { λ n. 1 };
+    ghost alone = { 1 };
 
-    ghost settle = { λ n. 1 };
+    ghost holds = { holds };
 
-    ghost begins = { local.calls.new };
+    ghost spares = { spares };
 
-    ghost moves = { calls_move Rule.fresh Rule.after shown Good local.calls };
+    ghost waits = { waits };
 
-    ghost excludes = { exclusive Rule.fresh Rule.after shown Good local.calls };
+    ghost nears = { nears };
 
-    ghost enters = { enters_within Rule.fresh Rule.after shown (λ n. 1) (λ n. 1) Good (λ p b. 1) (λ p b. 1) local };
+    ghost within = { within };
 
-    ghost settles = { out_within Rule.fresh Rule.after shown (λ n. 1) (λ n. 1) Good (λ p b. 1) (λ p b. 1) local };
-
-    fn new(boards: Boards) -> CellLock {
-        CellLock {
-            plane: Backplane::new(boards),
+    fn try_to_enter(holder: &mut Option<u8>, board: u8) -> bool {
+        let free = holder.is_none();
+        if free {
+            *holder = Some(board);
         }
-    }
-
-    fn station(&self, board: u8) -> Result<Station, Refusal> {
-        self.plane.station(board)
-    }
-
-    fn start(&mut self, board: u8) -> Result<(), Refusal> {
-        self.plane.start(board)
-    }
-
-    fn step(&mut self, board: u8, bit: bool) -> Result<(), Refusal> {
-        self.plane.step(board, bit)
-    }
-
-    fn leave(&mut self, board: u8) -> Result<(), Refusal> {
-        self.plane.leave(board)
-    }
-
-    fn pull(&mut self, board: u8) -> Result<(), Refusal> {
-        self.plane.pull(board)
+        free
     }
 }

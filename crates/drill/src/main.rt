@@ -4,7 +4,7 @@
 
 use cell::CellLock;
 use line::Line;
-use lock::{Boards, Call, Lock, Ordered, Refusal, Station, perform};
+use lock::{Boards, Call, Lock, MAX_BOARDS, Ordered, Refusal, Station};
 use one_bit::OneBit;
 use queue::Queue;
 use std::alloc::{AllocError, Global};
@@ -36,7 +36,8 @@ impl Dice {
         self.seed >> 16
     }
 
-    // A call of one of the boards, or now and then of one that is not there; steps are the most frequent.
+    // A call of one of the boards, or now and then of one that is not there; steps are the most frequent. The kind is a number
+    // here alone, as it is drawn.
     fn call(&mut self, count: u8) -> Call {
         let kind = self.roll() % 16;
         let board = ((self.roll() % (u32::from(count) + 2)) & 0xff) as u8;
@@ -50,6 +51,7 @@ impl Dice {
     }
 }
 
+// A letter for each station; the drill prints one sign a board, and not its name.
 fn station_letter(station: Result<Station, Refusal>) -> char {
     match station {
         Ok(Station::Out) => 'o',
@@ -60,6 +62,7 @@ fn station_letter(station: Result<Station, Refusal>) -> char {
     }
 }
 
+// Likewise a sign for each line.
 fn line_letter(line: Result<Line, Refusal>) -> char {
     match line {
         Ok(Line::Low) => '_',
@@ -70,93 +73,73 @@ fn line_letter(line: Result<Line, Refusal>) -> char {
     }
 }
 
-// The station of each board, a letter each.
-fn stations<L: Lock>(heap: Global, lock: &L, count: u8) -> Result<String, AllocError> {
+// A lock that is drilled, with what is printed of it.
+trait Drilled: Lock + Drop {
+    // The boards in order, a sign each.
+    fn shown(&self, heap: Global, count: u8) -> Result<String, AllocError>;
+}
+
+// A text of one sign for each board.
+fn signs<F: Fn(u8) -> char>(heap: Global, count: u8, sign: F) -> Result<String, AllocError>
+    requires { F.IsAlwaysCallable sign }
+{
     let mut text = String::new(heap);
     for board in 1..=count {
-        text.push(station_letter(lock.station(board)))?;
+        text.push(sign(board))?;
     }
     Ok(text)
 }
 
-// The flag of each board, a sign each.
-fn flags(heap: Global, lock: &OneBit, count: u8) -> Result<String, AllocError> {
-    let mut text = String::new(heap);
-    for board in 1..=count {
-        text.push(line_letter(lock.flag(board)))?;
+// The stations, and then the flags.
+impl Drilled for OneBit {
+    fn shown(&self, heap: Global, count: u8) -> Result<String, AllocError> {
+        let stations = signs(heap, count, |board| station_letter(self.station(board)))?;
+        let flags = signs(heap, count, |board| line_letter(self.flag(board)))?;
+        format!(in heap; "{stations} {flags}")
     }
-    Ok(text)
+}
+
+impl Drilled for CellLock {
+    fn shown(&self, heap: Global, count: u8) -> Result<String, AllocError> {
+        signs(heap, count, |board| station_letter(self.station(board)))
+    }
+}
+
+// A board that waits past its doorway is told apart.
+impl<L: Lock + Drop> Drilled for Queue<L> {
+    fn shown(&self, heap: Global, count: u8) -> Result<String, AllocError> {
+        signs(heap, count, |board| match self.waiting(board) {
+            Ok(true) => 'w',
+            _ => station_letter(self.station(board)),
+        })
+    }
 }
 
 // Makes some calls, and tells how many were refused.
-fn some_calls<L: Lock>(lock: &mut L, dice: &mut Dice, count: u8) -> u32 {
-    let mut refused = 0u32;
-    for _ in 0..CALLS {
-        if perform(lock, dice.call(count)).is_err() {
-            refused = refused.saturating_add(1);
-        }
-    }
-    refused
+fn some_calls<L: Lock>(lock: &mut L, dice: &mut Dice, count: u8) -> usize {
+    (0..CALLS)
+        .filter(|_| lock.perform(dice.call(count)).is_err())
+        .count()
 }
 
-fn drill_one_bit(rt: &HostRuntime, boards: Boards) -> anyhow::Result<()> {
+fn drill_lock<L: Drilled>(rt: &HostRuntime, name: &str, boards: Boards) -> anyhow::Result<()> {
     let count = boards.count();
     let mut dice = Dice::new(count);
-    let mut lock = OneBit::new(boards);
+    let mut lock = L::new(boards);
     for _ in 0..LINES {
         let refused = some_calls(&mut lock, &mut dice, count);
-        let stood = stations(rt.alloc(), &lock, count)?;
-        let shown = flags(rt.alloc(), &lock, count)?;
-        println!(rt; "one-bit {count} {refused:>2} {stood} {shown}")?;
-    }
-    Ok(())
-}
-
-fn drill_cell(rt: &HostRuntime, boards: Boards) -> anyhow::Result<()> {
-    let count = boards.count();
-    let mut dice = Dice::new(count);
-    let mut lock = CellLock::new(boards);
-    for _ in 0..LINES {
-        let refused = some_calls(&mut lock, &mut dice, count);
-        let stood = stations(rt.alloc(), &lock, count)?;
-        println!(rt; "cell {count} {refused:>2} {stood}")?;
-    }
-    Ok(())
-}
-
-// The standing of each board over a queue layer, a letter each: a board that waits past its doorway is told apart.
-fn standings<L: Lock>(heap: Global, lock: &Queue<L>, count: u8) -> Result<String, AllocError> {
-    let mut text = String::new(heap);
-    for board in 1..=count {
-        let letter = match lock.waiting(board) {
-            Ok(true) => 'w',
-            _ => station_letter(lock.station(board)),
-        };
-        text.push(letter)?;
-    }
-    Ok(text)
-}
-
-fn drill_queue<L: Lock + Drop>(rt: &HostRuntime, name: &str, boards: Boards) -> anyhow::Result<()> {
-    let count = boards.count();
-    let mut dice = Dice::new(count);
-    let mut lock: Queue<L> = Queue::new(boards);
-    for _ in 0..LINES {
-        let refused = some_calls(&mut lock, &mut dice, count);
-        let stood = standings(rt.alloc(), &lock, count)?;
-        println!(rt; "queue on {name} {count} {refused:>2} {stood}")?;
+        let shown = lock.shown(rt.alloc(), count)?;
+        println!(rt; "{name} {count} {refused:>2} {shown}")?;
     }
     Ok(())
 }
 
 fn drill(rt: &HostRuntime) -> anyhow::Result<()> {
-    for count in 1..=8 {
-        if let Some(boards) = Boards::new(count) {
-            drill_one_bit(rt, boards)?;
-            drill_cell(rt, boards)?;
-            drill_queue::<OneBit>(rt, "one-bit", boards)?;
-            drill_queue::<CellLock>(rt, "cell", boards)?;
-        }
+    for boards in (1..=MAX_BOARDS as u8).filter_map(Boards::new) {
+        drill_lock::<OneBit>(rt, "one-bit", boards)?;
+        drill_lock::<CellLock>(rt, "cell", boards)?;
+        drill_lock::<Queue<OneBit>>(rt, "queue on one-bit", boards)?;
+        drill_lock::<Queue<CellLock>>(rt, "queue on cell", boards)?;
     }
     Ok(())
 }

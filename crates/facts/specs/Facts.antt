@@ -9,7 +9,7 @@ use Rattle.lock.specs.declared.station.Station.{Station}
 use Rattle.lock.specs.declared.station.Station.TheVariants.{Out, Trying, Inside, Leaving}
 use Rattle.lock.specs.Runs.{run}
 use Rattle.lock.specs.Stations.{told}
-use Rattle.cell.specs.declared.plane.Backplane.{Backplane}
+use Rattle.backplane.specs.declared.plane.Backplane.{Backplane}
 use Rattle.cell.specs.Rule as cell
 use Rattle.one_bit.specs.declared.lines.Lines.{Lines}
 use Rattle.one_bit.specs.Rule.{after, flag_told, fresh, shown}

@@ -10,7 +10,7 @@ pub fn facts_hold()
 #[cfg(test)]
 mod tests {
     use cell::CellLock;
-    use lock::{Boards, Call, Lock, Station, perform, replay};
+    use lock::{Boards, Call, Lock, Station, replay};
     use one_bit::OneBit;
 
     // Where a board stands after calls on a new lock.
@@ -19,12 +19,12 @@ mod tests {
         lock.station(board).ok()
     }
 
-    // The number by which a call is refused after others, 0 where it is accepted.
+    // The number by which a call is refused after others, 0 where it is accepted, as a printed answer has it.
     fn refused<L: Lock + Drop>(boards: u8, calls: &[Call], call: Call) -> Option<u8> {
         let mut lock: L = replay(Boards::new(boards)?, calls);
-        match perform(&mut lock, call) {
+        match lock.perform(call) {
             Ok(()) => Some(0),
-            Err(refusal) => Some(refusal.number()),
+            Err(refusal) => Some(refusal.into()),
         }
     }
 

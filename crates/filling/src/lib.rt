@@ -1,8 +1,7 @@
 // Filling lists: records put one after the other into a slice that the caller lends.
 #![tactic(auto)]
 
-ghost use Rattle.std.specs.Prelude.{◌≡◌, ℕ, ◌<◌, ◌≤◌, true, false, length, is_ok, slice_index_or, slice_set};
-ghost use Rattle.std.specs.List.{slice_get};
+ghost use Rattle.std.specs.Prelude.{◌≡◌, ℕ, ◌<◌, ◌≤◌, true, false, is_ok, slice_index_or};
 ghost use Rattle.filling.specs.Lists.{count_after, element, free_places, push_answered, slice_after};
 
 mod refusal;
@@ -11,8 +10,9 @@ mod stamped;
 pub use refusal::Refusal;
 pub use stamped::Stamped;
 
-// The first `len` places hold the records, in the order in which they came. The places beyond are
-// the caller's, and stay as they are until a record comes to them.
+// The first `len` places hold the records, in the order in which they came. The places beyond are the caller's, and stay as
+// they are until a record comes to them: so a length beside the lent slice, and no vector, which would need a heap. The
+// definitions take slice and length apart, so that they also say what the lender's slice holds afterwards.
 #[derive(Drop)]
 pub struct Filling<'a, T> {
     places: &'a mut [T],
@@ -48,7 +48,7 @@ impl<'a, T: Copy> Filling<'a, T> {
         ensures { result ≡ element self.now.places.now self.now.len index }
     {
         if index < self.len {
-            read(self.places, index)
+            self.places.get(index).copied()
         } else {
             None
         }
@@ -68,30 +68,10 @@ impl<'a, T: Copy> Filling<'a, T> {
         if self.free() == 0 {
             return Err(Refusal::NoFreePlace);
         }
-        let end = self.len;
-        write(self.places, end, value);
+        self.places[self.len] = value;
         self.len += 1;
         Ok(())
     }
-}
-
-// The record at a place of a slice, where there is one.
-fn read<T: Copy>(places: &[T], index: usize) -> Option<T>
-    ensures { result ≡ slice_get places.now index }
-{
-    if index < places.len() {
-        Some(places[index])
-    } else {
-        None
-    }
-}
-
-// Writes one place of a slice, and no other.
-fn write<T: Copy>(places: &mut [T], index: usize, value: T)
-    requires { index < length places.old }
-    ensures { places.new ≡ slice_set places.old index value }
-{
-    places[index] = value;
 }
 
 #[cfg(test)]

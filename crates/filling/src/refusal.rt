@@ -8,12 +8,12 @@ pub enum Refusal {
     NoFreePlace,
 }
 
-impl Refusal {
-    // The number by which the refusal is told.
-    pub fn number(self) -> u8
-        ensures { result ≡ refused_by self }
-    {
-        match self {
+// The number by which the refusal is told.
+impl From<Refusal> for u8 {
+    ghost from_gives = { λ refusal n. n ≡ refused_by refusal };
+
+    fn from(refusal: Refusal) -> u8 {
+        match refusal {
             Refusal::NoFreePlace => 6,
         }
     }

@@ -1,28 +1,15 @@
 // The gap kind: it keeps the start and the signed gap to the stop.
-ghost use Rattle.std.specs.Prelude.{◌≡◌};
-ghost use Rattle.interpolator.specs.Counts.{put_answered};
 ghost use Rattle.interpolator.specs.Gaps.{gap_scale, stop_at};
 ghost use Rattle.std.proofs.Common.{lit≤};
 
-use crate::Interpolator;
 use crate::gap::Gap;
 use crate::refusal::Refusal;
-
-// Judges a count that is to be put.
-fn judge(count: u32) -> Result<(), Refusal>
-    ensures { result ≡ put_answered gap_scale count }
-{
-    if count <= Gap::FULL_SCALE {
-        Ok(())
-    } else {
-        Err(Refusal::AboveFullScale)
-    }
-}
+use crate::{Interpolator, judge};
 
 impl Interpolator for Gap {
     const FULL_SCALE: u32 = 16_777_215;
 
-    ghost scale = { gap_scale };
+    ghost FULL_SCALE = { gap_scale };
 
     ghost start = { λ s. s.start };
 
@@ -30,17 +17,13 @@ impl Interpolator for Gap {
 
     ghost bounded = { lit≤ tt };
 
-    fn limit() -> u32 {
-        Self::FULL_SCALE
-    }
-
     fn new() -> Gap {
         Gap { start: 0, gap: 0 }
     }
 
     // The gap moves against the start, so that the stop stays.
     fn put_start(&mut self, count: u32) -> Result<(), Refusal> {
-        judge(count)?;
+        judge(Self::FULL_SCALE, count)?;
         let stop = self.take_stop();
         *self = Gap {
             start: count,
@@ -50,7 +33,7 @@ impl Interpolator for Gap {
     }
 
     fn put_stop(&mut self, count: u32) -> Result<(), Refusal> {
-        judge(count)?;
+        judge(Self::FULL_SCALE, count)?;
         self.gap = i64::from(count) - i64::from(self.start);
         Ok(())
     }

@@ -17,38 +17,36 @@ pub use register::Register;
 
 // Two counts, both 0 when new. Putting one changes that one only; taking one tells it and changes nothing.
 pub trait Interpolator: Sized {
-    // The full scale: the greatest count that can be put. The clauses say `scale` for it, and `limit`
-    // tells it to code that knows the trait alone.
+    // The full scale: the greatest count that can be put.
     const FULL_SCALE: u32;
 
-    ghost scale: { ℕ };
+    // The same for the clauses: an implementation gives both, and the check proves them equal.
+    ghost FULL_SCALE: { ℕ };
 
     // The two counts that a value stands for, whatever it keeps.
     ghost start: { Self → ℕ };
 
     ghost stop: { Self → ℕ };
 
-    // The full scale, to be answered by `Self::FULL_SCALE`.
-    fn limit() -> u32
-        ensures { result ≡ scale };
-
     // Both counts are 0.
     fn new() -> Self
         ensures start { start result ≡ 0 }
         ensures stop { stop result ≡ 0 };
 
+    // Four calls, and not two with a choice of the count: each is made at a moment of its own, and no caller chooses.
+
     // Puts the start and leaves the stop; above full scale it is refused, and the whole value stays.
     fn put_start(&mut self, count: u32) -> Result<(), Refusal>
-        ensures answers { result ≡ put_answered scale count }
-        ensures start { start self.new ≡ put scale count (start self.old) }
+        ensures answers { result ≡ put_answered FULL_SCALE count }
+        ensures start { start self.new ≡ put FULL_SCALE count (start self.old) }
         ensures stop { stop self.new ≡ stop self.old }
         ensures kept { is_ok result ≡ false → self.new ≡ self.old };
 
     // Puts the stop and leaves the start, likewise.
     fn put_stop(&mut self, count: u32) -> Result<(), Refusal>
-        ensures answers { result ≡ put_answered scale count }
+        ensures answers { result ≡ put_answered FULL_SCALE count }
         ensures start { start self.new ≡ start self.old }
-        ensures stop { stop self.new ≡ put scale count (stop self.old) }
+        ensures stop { stop self.new ≡ put FULL_SCALE count (stop self.old) }
         ensures kept { is_ok result ≡ false → self.new ≡ self.old };
 
     // Tells the start, and changes nothing.
@@ -61,18 +59,26 @@ pub trait Interpolator: Sized {
         ensures tells { result ≡ stop self.now }
         ensures kept { self.exit.now ≡ self.entry.now };
 
-    ghost bounded: { scale ≤ 4294967295 };
+    ghost bounded: { FULL_SCALE ≤ 4294967295 };
 }
 
-// Judges a count that is to be put: within full scale, or refused.
-pub fn within_scale<I: Interpolator>(count: u32) -> Result<(), Refusal>
-    ensures { result ≡ put_answered I.Interpolator.scale count }
+// Judges a count that is to be put, by a full scale. An implementation calls it with its own: a generic call at its own type
+// would lead back to the implementation.
+pub fn judge(full_scale: u32, count: u32) -> Result<(), Refusal>
+    ensures { result ≡ put_answered full_scale count }
 {
-    if count <= I::limit() {
+    if count <= full_scale {
         Ok(())
     } else {
         Err(Refusal::AboveFullScale)
     }
+}
+
+// Judges a count that is to be put: within the full scale of an interpolator, or refused.
+pub fn within_scale<I: Interpolator>(count: u32) -> Result<(), Refusal>
+    ensures { result ≡ put_answered I.Interpolator.FULL_SCALE count }
+{
+    judge(I::FULL_SCALE, count)
 }
 
 #[cfg(test)]
@@ -96,7 +102,6 @@ mod tests {
             assert_eq!(rt; i.put_start(count), Err(Refusal::AboveFullScale));
             assert_eq!(rt; (i.take_start(), i.take_stop()), (0, I::FULL_SCALE));
         }
-        assert_eq!(rt; I::limit(), I::FULL_SCALE);
         Ok(())
     }
 

@@ -13,17 +13,13 @@ pub struct Register {
 impl Interpolator for Register {
     const FULL_SCALE: u32 = 4_294_967_295;
 
-    ghost scale = { 4294967295 };
+    ghost FULL_SCALE = { 4294967295 };
 
     ghost start = { λ s. s.start };
 
     ghost stop = { λ s. s.stop };
 
     ghost bounded = { lit≤ tt };
-
-    fn limit() -> u32 {
-        Self::FULL_SCALE
-    }
 
     fn new() -> Register {
         Register { start: 0, stop: 0 }

@@ -46,3 +46,32 @@ begun Falling to.High = Rising
 -- the second half of a change
 abbrev pub ended : Line → Line
 ended line = resting (heading line)
+
+-- one half of a change to a level: the second of a line in change, else the first
+abbrev pub changed : Line → Level → Line
+changed line to = cond (moving line) (ended line) (begun line to)
+
+-- the line is low, at rest; rising; high, at rest; falling
+abbrev pub low : Line → Bool
+low Low = true
+low Rising = false
+low High = false
+low Falling = false
+
+abbrev pub rising : Line → Bool
+rising Low = false
+rising Rising = true
+rising High = false
+rising Falling = false
+
+abbrev pub high : Line → Bool
+high Low = false
+high Rising = false
+high High = true
+high Falling = false
+
+abbrev pub falling : Line → Bool
+falling Low = false
+falling Rising = false
+falling High = false
+falling Falling = true

@@ -1,14 +1,27 @@
 // A line: driven by one board, read by the others, and in change for one step of its board.
 #![tactic(auto)]
 
-ghost use Rattle.std.specs.Prelude.{◌≡◌, true, false};
-ghost use Rattle.line.specs.Rule.{begun, ended, heading, level, moving, reading, resting};
+ghost use Rattle.std.specs.Prelude.{◌≡◌, true, false, Some};
+ghost use Rattle.std.specs.Fmt.{padded};
+ghost use Rattle.line.specs.Names.{line_name};
+ghost use Rattle.line.specs.Rule.{begun, changed, ended, heading, level, moving, reading, resting};
+
+use std::fmt;
 
 // What a line at rest has, and what a reading gives.
 #[derive(Clone, Copy, PartialEq, Eq, Debug)]
 pub enum Level {
     Low,
     High,
+}
+
+// What a bit says of a line in change.
+impl From<bool> for Level {
+    ghost from_gives = { λ bit result. result ≡ level bit };
+
+    fn from(bit: bool) -> Level {
+        if bit { Level::High } else { Level::Low }
+    }
 }
 
 // A line at rest, or in change: rising to high or falling to low. Every line is low at first.
@@ -18,6 +31,21 @@ pub enum Line {
     Rising,
     High,
     Falling,
+}
+
+impl fmt::Display for Line {
+    ghost output = { λ line. Some (line_name line) };
+
+    ghost styled_output = { λ line spec. Some (padded spec (line_name line)) };
+
+    fn fmt<W: fmt::Write>(&self, f: &mut fmt::Formatter<W>) -> fmt::Result {
+        f.pad(match self {
+            Line::Low => "low",
+            Line::Rising => "rising",
+            Line::High => "high",
+            Line::Falling => "falling",
+        })
+    }
 }
 
 impl Line {
@@ -40,7 +68,7 @@ impl Line {
         match self {
             Line::Low => Level::Low,
             Line::High => Level::High,
-            Line::Rising | Line::Falling => { if bit { Level::High } else { Level::Low } }
+            Line::Rising | Line::Falling => Level::from(bit),
         }
     }
 
@@ -76,6 +104,17 @@ impl Line {
         match self {
             Line::Low | Line::Falling => Line::Low,
             Line::Rising | Line::High => Line::High,
+        }
+    }
+
+    // One half of a change to a level: the second where the line is in change, else the first.
+    pub fn change(self, to: Level) -> Line
+        ensures { result ≡ changed self to }
+    {
+        if self.in_change() {
+            self.end()
+        } else {
+            self.begin(to)
         }
     }
 }

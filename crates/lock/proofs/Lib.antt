@@ -1,5 +1,5 @@
 pub mod Stations
-pub mod Others
+pub mod OtherBoards
 pub mod Runs
 pub mod Local
 pub mod Tables

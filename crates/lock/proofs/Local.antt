@@ -10,7 +10,7 @@ use Rattle.lock.specs.declared.station.Station.{Station}
 use Rattle.lock.specs.declared.station.Station.TheVariants.{Out, Trying, Inside, Leaving}
 use Rattle.lock.specs.Stations.{board, at, with, answer, accepted, Stands, AtMostOne, Moves}
 use Rattle.lock.specs.Runs.{own, Spares, OthersOut, run, AllOut, MovesAt, CallsMove, Exclusive, EntersWithin, OutWithin}
-use Rattle.lock.proofs.Stations.{out≢trying, out≢inside, out≢leaving, trying≢inside, trying≢leaving, inside≢leaving, start_accepted, leave_accepted, pull_accepted, step_accepted, accepted_step, board_there, stands_with, other_with, stands_other, still_out, all_out_at, moved_to, one_inside, own_same, own_other, no_own}
+use Rattle.lock.proofs.Stations.{out≢trying, out≢inside, out≢leaving, trying≢inside, trying≢leaving, inside≢leaving, start_accepted, leave_accepted, pull_accepted, step_accepted, accepted_step, board_there, stands_with, other_with, stands_other, still_out, replicate_at, moved_to, one_inside, own_same, own_other, no_own}
 use Rattle.lock.proofs.Runs.{always, each_any, arrives}
 
 module _ {L : Type 0} (fresh : Boards → L) (after : L → Call → L) (stations : L → List Station) where
@@ -55,7 +55,7 @@ module _ {L : Type 0} (fresh : Boards → L) (after : L → Call → L) (station
     exclusive n cs = (always after (λ l. Good n l × AtMostOne (stations l)) keep (fresh n) cs (k.first n, none)).1
       where
         none : AtMostOne (stations (fresh n))
-        none i j hi hj = absurd (out≢inside (sym (ap (λ ss. at ss i) (k.new n) ∙ all_out_at n.count (i - 1)) ∙ hi.2))
+        none i j hi hj = absurd (out≢inside (sym (ap (λ ss. at ss i) (k.new n) ∙ replicate_at Out n.count (i - 1)) ∙ hi.2))
 
         keep : (l : L) (c : Call) → Good n l × AtMostOne (stations l) → Good n (after l c) × AtMostOne (stations (after l c))
         keep l c (g, one) = (

@@ -1,3 +1,4 @@
+pub mod Names
 pub mod Most
 pub mod Fitting
 pub mod Others

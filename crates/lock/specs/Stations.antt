@@ -54,12 +54,16 @@ pull_at Trying = Ok tt
 pull_at Inside = Ok tt
 pull_at Leaving = Err NotEngaged
 
+-- what a call answers, by the station of its board
+abbrev pub judged_at : Call → Station → Result Unit Refusal
+judged_at (Start b) s = start_at s
+judged_at (Step b bit) s = Ok tt
+judged_at (Leave b) s = leave_at s
+judged_at (Pull b) s = pull_at s
+
 -- what a call answers: the board is judged first, then its station
 abbrev pub answer : List Station → Call → Result Unit Refusal
-answer ss (Start b) = cond (among (length ss) b) (start_at (at ss b)) (Err NoSuchBoard)
-answer ss (Step b bit) = cond (among (length ss) b) (Ok tt) (Err NoSuchBoard)
-answer ss (Leave b) = cond (among (length ss) b) (leave_at (at ss b)) (Err NoSuchBoard)
-answer ss (Pull b) = cond (among (length ss) b) (pull_at (at ss b)) (Err NoSuchBoard)
+answer ss c = cond (among (length ss) (board c)) (judged_at c (at ss (board c))) (Err NoSuchBoard)
 
 abbrev pub accepted : List Station → Call → Bool
 accepted ss c = is_ok (answer ss c)

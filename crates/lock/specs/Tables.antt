@@ -20,6 +20,10 @@ module _ {T : Type 0} where
   abbrev pub kept_for : Table T → ℕ → Bool
   kept_for t b = among (length (listed t)) b
 
+  -- the place of board b's record
+  abbrev pub placed : Table T → ℕ → Result ℕ Refusal
+  placed t b = cond (kept_for t b) (Ok (b - 1)) (Err NoSuchBoard)
+
   -- what is told of board b; d stands where there is no record
   abbrev pub asked : Table T → ℕ → T → Result T Refusal
   asked t b d = cond (kept_for t b) (Ok (slice_index_or (listed t) (b - 1) d)) (Err NoSuchBoard)

@@ -1,7 +1,8 @@
 // The number of boards of an analyser: from one to the maximum.
-ghost use Rattle.std.specs.Prelude.{◌≡◌, ◌+◌, ◌<◌, ◌≤◌, ◌⊎◌, MatchOption};
+ghost use Rattle.std.specs.Prelude.{◌≡◌, ◌+◌, ◌-◌, ◌<◌, ◌≤◌, ◌⊎◌, true, false, MatchOption};
 ghost use Rattle.lock.specs.Most.{most};
 ghost use Rattle.lock.specs.Others.{other_after};
+ghost use Rattle.lock.specs.Stations.{among};
 
 // The most boards that one analyser has; `most` says the same to the clauses.
 pub const MAX_BOARDS: usize = 8;
@@ -15,7 +16,7 @@ pub struct Boards {
 }
 
 impl Boards {
-    // So many boards, or nothing where there are none or too many.
+    // So many boards, or nothing where there are none or too many, as `NonZeroU8::new` has it.
     pub fn new(count: u8) -> Option<Boards>
         ensures { MatchOption result ((count < 1) ⊎ (most < count)) (λ n. n.count ≡ count) }
     {
@@ -52,20 +53,23 @@ impl Boards {
         self.count
     }
 
-    // The lowest board above j, a board's own left out.
-    pub fn other_after(self, own: u8, j: u8) -> Option<u8>
-        ensures { result ≡ other_after self.count own j }
+    // The seat of a board, if there is such a board.
+    pub fn seat(self, board: u8) -> Option<Seat>
+        ensures { MatchOption result (among self.count board ≡ false) (λ s. (s.board ≡ board) × (among self.count board ≡ true)) }
     {
-        let past = if j < self.count && j + 1 == own {
-            own
-        } else {
-            j
-        };
-        if past < self.count {
-            Some(past + 1)
+        if 1 <= board && board <= self.count {
+            Some(Seat { board })
         } else {
             None
         }
+    }
+
+    // The boards but one.
+    pub fn others(self, own: u8) -> Others
+        ensures boards { result.boards ≡ self }
+        ensures own { result.own ≡ own }
+    {
+        Others { boards: self, own }
     }
 
     // The most boards that there can be.
@@ -73,5 +77,60 @@ impl Boards {
         ensures { result ≡ most }
     {
         MAX_BOARDS
+    }
+}
+
+// The boards but a board's own, as that board goes through them in rising order.
+#[derive(Clone, Copy)]
+pub struct Others {
+    pub(crate) boards: Boards,
+    pub(crate) own: u8,
+}
+
+impl Others {
+    // The board that is left out.
+    pub fn own(self) -> u8
+        ensures { result ≡ self.own }
+    {
+        let Others { own, .. } = self;
+        own
+    }
+
+    // The lowest of the others above j.
+    pub fn after(self, j: u8) -> Option<u8>
+        ensures { result ≡ other_after self.boards.count self.own j }
+    {
+        let count = self.boards.count;
+        let past = if j < count && j + 1 == self.own {
+            self.own
+        } else {
+            j
+        };
+        if past < count { Some(past + 1) } else { None }
+    }
+}
+
+// The number of a board that is there: it has been judged once, and never lies above the maximum.
+#[derive(Clone, Copy)]
+pub struct Seat {
+    pub(crate) board: u8,
+    ghost low: { 1 ≤ board },
+    ghost high: { board ≤ most },
+}
+
+impl Seat {
+    // The board's number.
+    pub fn board(self) -> u8
+        ensures { result ≡ self.board }
+    {
+        self.board
+    }
+
+    // The board's place in an array with a place for every board that there can be.
+    pub fn place(self) -> usize
+        ensures place { result ≡ self.board - 1 }
+        ensures within { result < most }
+    {
+        usize::from(self.board) - 1
     }
 }

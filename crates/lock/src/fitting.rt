@@ -12,12 +12,12 @@ pub enum FitRefusal {
     Full,
 }
 
-impl FitRefusal {
-    // The number by which the refusal is told.
-    pub fn number(self) -> u8
-        ensures { result ≡ fit_number self }
-    {
-        match self {
+// The number by which the refusal is told.
+impl From<FitRefusal> for u8 {
+    ghost from_gives = { λ refusal n. n ≡ fit_number refusal };
+
+    fn from(refusal: FitRefusal) -> u8 {
+        match refusal {
             FitRefusal::Full => 7,
         }
     }
@@ -48,9 +48,7 @@ impl FittingList {
         }
         let mut list = FittingList::begin();
         for fitted in 1..count {
-            if let Err(_) = list.fit() {
-                return None;
-            }
+            list.fit().ok()?;
         }
         Some(list)
     }
@@ -61,13 +59,8 @@ impl FittingList {
         ensures leaves { self.new.boards.count ≡ fitted self.old.boards.count }
         ensures kept { is_ok result ≡ false → self.new ≡ self.old }
     {
-        match self.boards.one_more() {
-            Some(boards) => {
-                self.boards = boards;
-                Ok(())
-            }
-            None => Err(FitRefusal::Full),
-        }
+        self.boards = self.boards.one_more().ok_or(FitRefusal::Full)?;
+        Ok(())
     }
 
     // The number of boards fitted so far, for which a lock can be made.

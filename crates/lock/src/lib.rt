@@ -15,7 +15,7 @@ mod fitting;
 mod station;
 mod table;
 
-pub use boards::{Boards, MAX_BOARDS};
+pub use boards::{Boards, MAX_BOARDS, Others, Seat};
 pub use fitting::{FitRefusal, FittingList};
 pub use station::{Call, Refusal, Station};
 pub use table::{Table, place_of};
@@ -49,33 +49,54 @@ pub trait Lock: Sized {
     fn station(&self, board: u8) -> Result<Station, Refusal>
         ensures { result ≡ told (stations (state self.now)) board };
 
+    // Makes a call: the board is judged first, then its station. A refused call changes nothing.
+    fn perform(&mut self, call: Call) -> Result<(), Refusal>
+        ensures answers { result ≡ answer (stations (state self.old)) call }
+        ensures leaves { state self.new ≡ after (state self.old) call }
+        ensures moves { is_ok result ≡ true → Moves (stations (state self.old)) call (stations (state self.new)) }
+        ensures kept { is_ok result ≡ false → self.new ≡ self.old };
+
+    // The four calls by their names, each one line over `perform`, so that a holder of a lock need not build a `Call`.
+
     // Takes an out board to trying.
-    fn start(&mut self, board: u8) -> Result<(), Refusal>
+    final fn start(&mut self, board: u8) -> Result<(), Refusal>
         ensures answers { result ≡ answer (stations (state self.old)) (Start board) }
         ensures leaves { state self.new ≡ after (state self.old) (Start board) }
         ensures moves { is_ok result ≡ true → Moves (stations (state self.old)) (Start board) (stations (state self.new)) }
-        ensures kept { is_ok result ≡ false → self.new ≡ self.old };
+        ensures kept { is_ok result ≡ false → self.new ≡ self.old }
+    {
+        self.perform(Call::Start(board))
+    }
 
     // May take a trying board inside, or a leaving board out.
-    fn step(&mut self, board: u8, bit: bool) -> Result<(), Refusal>
+    final fn step(&mut self, board: u8, bit: bool) -> Result<(), Refusal>
         ensures answers { result ≡ answer (stations (state self.old)) (Step board bit) }
         ensures leaves { state self.new ≡ after (state self.old) (Step board bit) }
         ensures moves { is_ok result ≡ true → Moves (stations (state self.old)) (Step board bit) (stations (state self.new)) }
-        ensures kept { is_ok result ≡ false → self.new ≡ self.old };
+        ensures kept { is_ok result ≡ false → self.new ≡ self.old }
+    {
+        self.perform(Call::Step(board, bit))
+    }
 
     // Takes an inside board to leaving.
-    fn leave(&mut self, board: u8) -> Result<(), Refusal>
+    final fn leave(&mut self, board: u8) -> Result<(), Refusal>
         ensures answers { result ≡ answer (stations (state self.old)) (Leave board) }
         ensures leaves { state self.new ≡ after (state self.old) (Leave board) }
         ensures moves { is_ok result ≡ true → Moves (stations (state self.old)) (Leave board) (stations (state self.new)) }
-        ensures kept { is_ok result ≡ false → self.new ≡ self.old };
+        ensures kept { is_ok result ≡ false → self.new ≡ self.old }
+    {
+        self.perform(Call::Leave(board))
+    }
 
     // Takes a trying or inside board to leaving.
-    fn pull(&mut self, board: u8) -> Result<(), Refusal>
+    final fn pull(&mut self, board: u8) -> Result<(), Refusal>
         ensures answers { result ≡ answer (stations (state self.old)) (Pull board) }
         ensures leaves { state self.new ≡ after (state self.old) (Pull board) }
         ensures moves { is_ok result ≡ true → Moves (stations (state self.old)) (Pull board) (stations (state self.new)) }
-        ensures kept { is_ok result ≡ false → self.new ≡ self.old };
+        ensures kept { is_ok result ≡ false → self.new ≡ self.old }
+    {
+        self.perform(Call::Pull(board))
+    }
 
     ghost begins: { AllOut fresh stations };
 
@@ -111,21 +132,6 @@ pub trait Ordered: Lock {
     ghost passes: { PassesWithin Self.Lock.fresh Self.Lock.after Self.Lock.stations waits doorway };
 }
 
-// Makes one call.
-pub fn perform<L: Lock>(lock: &mut L, call: Call) -> Result<(), Refusal>
-    ensures answers { result ≡ answer (L.Lock.stations (L.Lock.state lock.old)) call }
-    ensures leaves { L.Lock.state lock.new ≡ L.Lock.after (L.Lock.state lock.old) call }
-    ensures moves { is_ok result ≡ true → Moves (L.Lock.stations (L.Lock.state lock.old)) call (L.Lock.stations (L.Lock.state lock.new)) }
-    ensures kept { is_ok result ≡ false → lock.new ≡ lock.old }
-{
-    match call {
-        Call::Start(board) => lock.start(board),
-        Call::Step(board, bit) => lock.step(board, bit),
-        Call::Leave(board) => lock.leave(board),
-        Call::Pull(board) => lock.pull(board),
-    }
-}
-
 // Makes a new lock and every call of a list on it, in order, accepted or refused.
 pub fn replay<L: Lock>(boards: Boards, calls: &[Call]) -> L
     ensures leaves { L.Lock.state result ≡ run L.Lock.after (L.Lock.fresh boards) calls.now }
@@ -133,7 +139,7 @@ pub fn replay<L: Lock>(boards: Boards, calls: &[Call]) -> L
 {
     let mut lock = L::new(boards);
     for call in calls {
-        let _ = perform(&mut lock, *call);
+        let _ = lock.perform(*call);
     }
     lock
 }

@@ -1,13 +1,14 @@
 // A table with one record for each board.
-ghost use Rattle.std.specs.Prelude.{◌≡◌, ◌<◌, ◌≤◌, true, IfSome};
+ghost use Rattle.std.specs.Prelude.{◌≡◌, ◌<◌, IfOk, IfSome};
 ghost use Rattle.lock.specs.Stations.{place_of};
 ghost use Rattle.lock.specs.Most.{most};
-ghost use Rattle.lock.specs.Tables.{asked, filled, judged, kept_for, written};
+ghost use Rattle.lock.specs.Tables.{asked, filled, judged, placed, written};
 
 use crate::boards::{Boards, MAX_BOARDS};
 use crate::station::Refusal;
 
-// Where a board stands in an array with a place for every board that there can be.
+// Where a board stands in an array with a place for every board that there can be. A place is a bare index, so there is no
+// type of its own to convert into.
 pub fn place_of(board: u8) -> Option<usize>
     ensures tells { result ≡ place_of board }
     ensures within { IfSome result (λ i. i < most) }
@@ -44,24 +45,21 @@ impl<T: Copy> Table<T> {
         self.boards
     }
 
-    // Whether there is such a board.
-    fn has(&self, board: u8) -> bool
-        ensures tells { result ≡ kept_for self.now board }
-        ensures within { result ≡ true → (1 ≤ board) × (board ≤ most) }
+    // The place of a board's record.
+    fn place(&self, board: u8) -> Result<usize, Refusal>
+        ensures tells { result ≡ placed self.now board }
+        ensures within { IfOk result (λ i. i < most) }
     {
-        let records: &[T] = &self.records;
-        1 <= board && board <= self.boards.count() && usize::from(board) <= records.len()
+        let seat = self.boards.seat(board).ok_or(Refusal::NoSuchBoard)?;
+        Ok(seat.place())
     }
 
     // The record of a board.
     pub fn record(&self, board: u8) -> Result<T, Refusal>
         ensures { (d : T) → result ≡ asked self.now board d }
     {
-        if self.has(board) {
-            Ok(self.records[board as usize - 1])
-        } else {
-            Err(Refusal::NoSuchBoard)
-        }
+        let place = self.place(board)?;
+        Ok(self.records[place])
     }
 
     // Writes the record of a board, and no other.
@@ -69,11 +67,8 @@ impl<T: Copy> Table<T> {
         ensures answers { result ≡ judged self.old board }
         ensures leaves { self.new ≡ written self.old board «record» }
     {
-        if self.has(board) {
-            self.records[board as usize - 1] = record;
-            Ok(())
-        } else {
-            Err(Refusal::NoSuchBoard)
-        }
+        let place = self.place(board)?;
+        self.records[place] = record;
+        Ok(())
     }
 }

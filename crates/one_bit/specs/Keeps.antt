@@ -1,5 +1,5 @@
 -- The one-bit lock keeps the meaning of a lock.
-use Rattle.std.specs.Prelude.{◌≡◌, ℕ, zero, suc, ◌+◌, ◌-◌, ◌<◌, ◌≤◌, Bool, true, false, cond, not, ◌⊎◌, map, length, get_or, replicate, is_ok, Err, ◌==◌, ◌≢◌, nat_lt, slice_index_or, refl}
+use Rattle.std.specs.Prelude.{◌≡◌, ℕ, ◌+◌, ◌-◌, ◌<◌, ◌≤◌, Bool, true, false, cond, not, ◌⊎◌, map, length, get_or, replicate, is_ok, Err, ◌==◌, ◌≢◌, nat_lt, refl}
 use Rattle.std.proofs.Common.{sym, ap, subst, ◌∙◌, inl, inr, arith}
 use lib.LanesLaws.{map-replicate}
 use Rattle.std.proofs.lemmas.Bool.{cases_eq, cases_Bool, lt-ltb, eq-eqb, and_parts}
@@ -8,7 +8,7 @@ use Rattle.line.specs.declared.Level.{Level}
 use Rattle.line.specs.declared.Level.TheVariants as to
 use Rattle.line.specs.declared.Line.{Line}
 use Rattle.line.specs.declared.Line.TheVariants.{Low}
-use Rattle.line.specs.Rule.{begun, ended, moving, reading}
+use Rattle.line.specs.Rule.{begun, ended, moving, reading, high}
 use Rattle.lock.specs.declared.boards.Boards.{Boards}
 use Rattle.lock.specs.declared.station.Call.{Call}
 use Rattle.lock.specs.declared.station.Call.TheVariants.{Start, Step, Leave, Pull}
@@ -20,14 +20,14 @@ use Rattle.lock.specs.Stations.{among, start_at, accepted, Stands, NoneElse, Ste
 use Rattle.lock.specs.Stations as stations
 use Rattle.lock.specs.Runs.{OthersOut, MovesAt}
 use Rattle.lock.specs.Tables.{listed, kept_for}
-use Rattle.lock.proofs.Stations.{true≢false, start_accepted, leave_accepted, accepted_step, among_from, from_among}
+use Rattle.lock.proofs.Stations.{true≢false, start_accepted, leave_accepted, accepted_step, among_from, from_among, replicate_at}
 use Rattle.lock.proofs.Tables.{listed_most}
 use Rattle.lock.proofs.Local.{Local}
 use Rattle.one_bit.specs.declared.lines.Board.{Board}
 use Rattle.one_bit.specs.declared.lines.Lines.{Lines}
 use Rattle.one_bit.specs.declared.lines.Place.{Place}
 use Rattle.one_bit.specs.declared.lines.Place.TheVariants.{Out, Raising, Reading, Lowering, Awaiting, Inside, Leaving}
-use Rattle.one_bit.specs.Rule.{high, board, fresh, station, shown, seat, put, seen, onward, read_on, wait_on, lowered, stepped, step_of, after}
+use Rattle.one_bit.specs.Rule.{board, fresh, station, shown, seat, put, seen, onward, read_on, wait_on, lowered, stepped, step_of, after}
 use Rattle.one_bit.specs.Sound.{fits, passed, Raised, Fits, Passed, Apart}
 use Rattle.one_bit.specs.Seats.{There, from_shown, shown_length, seat_there, seat_absent, at_seat, stands_seat, seat_stands, still_there, was_there, seat_put, seat_other, shown_put, took, stayed, next, done_puts, call_there, others_stay, same_boards}
 use Rattle.one_bit.specs.Steps.{never, onward_passed, step_way, step_fits, pull_fits, passed_high, out_place, inside_place, leaving_place, out_low, to_go, some_left, nearer, to_low, lower, low_most}
@@ -172,14 +172,9 @@ fresh_seat : (n : Boards) (b : ℕ) → seat (fresh n) b ≡ board Low Out
 fresh_seat n b =
     elim (cases_Bool (kept_for (fresh n).table b)) [
       | inl t ↦ seat_there (fresh n) b (from_among (length (listed (fresh n).table)) b t)
-          ∙ ap (λ xs. get_or xs (b - 1) (board Low Out)) (take-replicate n.count most (board Low Out) n.few) ∙ replicated n.count (b - 1)
+          ∙ ap (λ xs. get_or xs (b - 1) (board Low Out)) (take-replicate n.count most (board Low Out) n.few) ∙ replicate_at (board Low Out) n.count (b - 1)
       | inr f ↦ seat_absent (fresh n) b f
     ]
-  where
-    replicated : (k i : ℕ) → slice_index_or (replicate k (board Low Out)) i (board Low Out) ≡ board Low Out
-    replicated zero i = refl
-    replicated (suc k) zero = refl
-    replicated (suc k) (suc i) = replicated k i
 
 pub fresh_sound : (n : Boards) → Sound (fresh n)
 fresh_sound n = (

@@ -1,10 +1,10 @@
 -- The rule of the one-bit lock, on flags and places: Lamport's one-bit algorithm, cut into steps.
-use Rattle.std.specs.Prelude.{ℕ, Bool, true, false, cond, List, map, Some, None, Ok, Err, Option, Result, nat_lt}
+use Rattle.std.specs.Prelude.{ℕ, Bool, cond, List, map, Some, None, Ok, Err, Option, Result, nat_lt}
 use Rattle.line.specs.declared.Level.{Level}
 use Rattle.line.specs.declared.Level.TheVariants as to
 use Rattle.line.specs.declared.Line.{Line}
-use Rattle.line.specs.declared.Line.TheVariants.{Low, Rising, High, Falling}
-use Rattle.line.specs.Rule.{begun, ended, moving, reading}
+use Rattle.line.specs.declared.Line.TheVariants.{Low}
+use Rattle.line.specs.Rule.{begun, ended, moving, reading, high}
 use Rattle.lock.specs.declared.boards.Boards.{Boards}
 use Rattle.lock.specs.declared.station.Call.{Call}
 use Rattle.lock.specs.declared.station.Call.TheVariants.{Start, Step, Leave, Pull}
@@ -23,13 +23,6 @@ use Rattle.one_bit.specs.declared.lines.Place.TheVariants.{Out, Raising, Reading
 -- a board with this flag, at this place
 abbrev pub board : Line → Place → Board
 board flag place = record { flag = flag; place = place }
-
--- the line is high, at rest
-abbrev pub high : Line → Bool
-high Low = false
-high Rising = false
-high High = true
-high Falling = false
 
 -- every board is out, with its flag low
 abbrev pub fresh : Boards → Lines

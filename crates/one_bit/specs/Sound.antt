@@ -1,7 +1,7 @@
 -- What holds of the flags and places of every one-bit lock that exists.
 use Rattle.std.specs.Prelude.{◌≡◌, ℕ, ◌≤◌, Bool, true, false, not, ◌&&◌, ◌||◌, length, ◌==◌, ◌≢◌, nat_lt}
+use Rattle.line.specs.Rule.{falling, high, low, rising}
 use Rattle.line.specs.declared.Line.{Line}
-use Rattle.line.specs.declared.Line.TheVariants.{Low, Rising, High, Falling}
 use Rattle.lock.specs.declared.station.Call.{Call}
 use Rattle.lock.specs.declared.station.Station.TheVariants as at
 use Rattle.lock.specs.Stations.{board, Stands}
@@ -9,26 +9,7 @@ use Rattle.lock.specs.Tables.{listed}
 use Rattle.one_bit.specs.declared.lines.Lines.{Lines}
 use Rattle.one_bit.specs.declared.lines.Place.{Place}
 use Rattle.one_bit.specs.declared.lines.Place.TheVariants.{Out, Raising, Reading, Lowering, Awaiting, Inside, Leaving}
-use Rattle.one_bit.specs.Rule.{high, seat, shown, flag_told, after}
-
--- the line is low, at rest; rising; falling
-abbrev pub low : Line → Bool
-low Low = true
-low Rising = false
-low High = false
-low Falling = false
-
-abbrev pub rising : Line → Bool
-rising Low = false
-rising Rising = true
-rising High = false
-rising Falling = false
-
-abbrev pub falling : Line → Bool
-falling Low = false
-falling Rising = false
-falling High = false
-falling Falling = true
+use Rattle.one_bit.specs.Rule.{seat, shown, flag_told, after}
 
 -- which flag goes with which place of board b
 abbrev pub fits : ℕ → Line → Place → Bool

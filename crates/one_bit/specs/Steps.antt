@@ -6,15 +6,15 @@ use Rattle.line.specs.declared.Level.{Level}
 use Rattle.line.specs.declared.Level.TheVariants as to
 use Rattle.line.specs.declared.Line.{Line}
 use Rattle.line.specs.declared.Line.TheVariants.{Low, Rising, High, Falling}
-use Rattle.line.specs.Rule.{begun, ended, moving}
+use Rattle.line.specs.Rule.{begun, ended, moving, high}
 use Rattle.lock.specs.declared.station.Station.{Station}
 use Rattle.lock.specs.declared.station.Station.TheVariants as at
 use Rattle.lock.specs.Others.{other_after}
-use Rattle.lock.proofs.Others.{NextOther, Found, other_found}
+use Rattle.lock.proofs.OtherBoards.{NextOther, Found, other_found}
 use Rattle.lock.proofs.Stations.{out≢trying, trying≢inside, trying≢leaving, true≢false}
 use Rattle.one_bit.specs.declared.lines.Place.{Place}
 use Rattle.one_bit.specs.declared.lines.Place.TheVariants.{Out, Raising, Reading, Lowering, Awaiting, Inside, Leaving}
-use Rattle.one_bit.specs.Rule.{high, board, station, reads, onward, lowered, stepped}
+use Rattle.one_bit.specs.Rule.{board, station, reads, onward, lowered, stepped}
 use Rattle.one_bit.specs.Sound.{fits, passed}
 
 -- a test that came out false proves anything where it is said to be true

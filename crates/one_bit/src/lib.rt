@@ -17,7 +17,7 @@ mod rule;
 
 use line::Line;
 pub use lines::{Board, Lines, Place};
-use lock::{Boards, Lock, Refusal, Station};
+use lock::{Boards, Call, Lock, Refusal, Station};
 pub use one_bit_lock::OneBit;
 
 impl OneBit {
@@ -66,19 +66,7 @@ impl Lock for OneBit {
         self.lines.station(board)
     }
 
-    fn start(&mut self, board: u8) -> Result<(), Refusal> {
-        self.lines.start(board)
-    }
-
-    fn step(&mut self, board: u8, bit: bool) -> Result<(), Refusal> {
-        self.lines.step(board, bit)
-    }
-
-    fn leave(&mut self, board: u8) -> Result<(), Refusal> {
-        self.lines.leave(board)
-    }
-
-    fn pull(&mut self, board: u8) -> Result<(), Refusal> {
-        self.lines.pull(board)
+    fn perform(&mut self, call: Call) -> Result<(), Refusal> {
+        self.lines.perform(call)
     }
 }

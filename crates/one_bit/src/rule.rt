@@ -4,46 +4,48 @@ ghost use Rattle.line.specs.Rule.{begun};
 ghost use Rattle.line.specs.declared.Level.TheVariants as to;
 ghost use Rattle.line.specs.declared.Line.TheVariants.{Low};
 ghost use Rattle.lock.specs.Stations.{answer, told};
-ghost use Rattle.lock.specs.declared.station.Call.TheVariants.{Start, Step, Leave, Pull};
 ghost use Rattle.one_bit.specs.declared.lines.Place.TheVariants.{Leaving, Out};
 ghost use Rattle.one_bit.specs.Rule.{after, changed, flag_told, fresh, lowered, onward, put, read_on, seen, shown, station, stepped, wait_on};
 ghost use Rattle.one_bit.specs.Rule.{board as made, seat as seat_at};
+ghost use Rattle.one_bit.specs.Seats.{next};
 
 use crate::lines::{Board, Lines, Place};
 use line::{Level, Line};
-use lock::{Boards, Refusal, Station, Table};
+use lock::{Boards, Call, Others, Refusal, Station, Table};
 
-impl Place {
-    // The station that a place belongs to.
-    fn station(self) -> Station
-        ensures { result ≡ station self }
-    {
-        match self {
+// The station that a place belongs to.
+impl From<Place> for Station {
+    ghost from_gives = { λ place s. s ≡ station place };
+
+    fn from(place: Place) -> Station {
+        match place {
             Place::Out => Station::Out,
             Place::Inside => Station::Inside,
             Place::Leaving => Station::Leaving,
             _ => Station::Trying,
         }
     }
+}
 
+impl Place {
     // Where a board goes once it has read the flags up to board j's: to the next one's but its own, or inside.
-    fn onward(boards: Boards, own: u8, j: u8) -> Place
-        ensures { result ≡ onward boards.count own j }
+    fn onward(others: Others, j: u8) -> Place
+        ensures { result ≡ onward others.boards.count others.own j }
     {
-        match boards.other_after(own, j) {
+        match others.after(j) {
             Some(next) => Place::Reading(next),
             None => Place::Inside,
         }
     }
 
     // Where a board goes that has read the flag of board j.
-    fn read_on(boards: Boards, own: u8, j: u8, level: Level) -> Place
-        ensures { result ≡ read_on boards.count own j level }
+    fn read_on(others: Others, j: u8, level: Level) -> Place
+        ensures { result ≡ read_on others.boards.count others.own j level }
     {
         match level {
-            Level::Low => Place::onward(boards, own, j),
+            Level::Low => Place::onward(others, j),
             Level::High => {
-                if j < own {
+                if j < others.own() {
                     Place::Lowering(j)
                 } else {
                     Place::Reading(j)
@@ -78,10 +80,7 @@ impl Board {
     fn at(self, place: Place) -> Board
         ensures { result ≡ made self.flag place }
     {
-        Board {
-            flag: self.flag,
-            place,
-        }
+        Board { place, ..self }
     }
 
     // One half of a change of the flag to a level: the first, after which the board stays where it is, or the second,
@@ -89,16 +88,14 @@ impl Board {
     fn change(self, to: Level, then: Place) -> Board
         ensures { result ≡ changed self.flag to self.place «then» }
     {
-        if self.flag.in_change() {
-            Board {
-                flag: self.flag.end(),
-                place: then,
-            }
+        let place = if self.flag.in_change() {
+            then
         } else {
-            Board {
-                flag: self.flag.begin(to),
-                place: self.place,
-            }
+            self.place
+        };
+        Board {
+            flag: self.flag.change(to),
+            place,
         }
     }
 
@@ -112,7 +109,7 @@ impl Board {
         }
     }
 
-    // Begins to lower a high flag; makes any other low, and is out.
+    // Begins to lower a high flag; makes any other low, and is out. A door does the like with its y, on a record of its own.
     fn go_out(self) -> Board
         ensures { result ≡ lowered self.flag }
     {
@@ -125,14 +122,14 @@ impl Board {
         }
     }
 
-    // One step of this board, whose number is `own`, that reads `level` if it reads a flag.
-    fn stepped(self, boards: Boards, own: u8, level: Level) -> Board
-        ensures { result ≡ stepped boards.count own level self.flag self.place }
+    // One step of this board, beside the others, that reads `level` if it reads a flag.
+    fn stepped(self, others: Others, level: Level) -> Board
+        ensures { result ≡ stepped others.boards.count others.own level self.flag self.place }
     {
         match self.place {
             Place::Out | Place::Inside => self,
-            Place::Raising => self.change(Level::High, Place::onward(boards, own, 0)),
-            Place::Reading(j) => self.at(Place::read_on(boards, own, j, level)),
+            Place::Raising => self.change(Level::High, Place::onward(others, 0)),
+            Place::Reading(j) => self.at(Place::read_on(others, j, level)),
             Place::Lowering(j) => self.change(Level::Low, Place::Awaiting(j)),
             Place::Awaiting(j) => self.at(Place::wait_on(j, level)),
             Place::Leaving => self.go_out(),
@@ -153,17 +150,14 @@ impl Lines {
     pub(crate) fn seat(&self, board: u8) -> Board
         ensures { result ≡ seat_at self.now board }
     {
-        match self.table.record(board) {
-            Ok(own) => own,
-            Err(_) => Board::out(),
-        }
+        self.table.record(board).unwrap_or(Board::out())
     }
 
     pub(crate) fn station(&self, board: u8) -> Result<Station, Refusal>
         ensures { result ≡ told (shown self.now) board }
     {
         let own = self.table.record(board)?;
-        Ok(own.place.station())
+        Ok(Station::from(own.place))
     }
 
     // The flag of a board.
@@ -174,7 +168,7 @@ impl Lines {
         Ok(own.flag)
     }
 
-    // What a step reads of a flag, if its board's place names one.
+    // What a step reads of a flag, if its board's place names one; low where it reads none, which then makes no difference.
     fn read(&self, bit: bool, place: Place) -> Level
         ensures { result ≡ seen self.now bit place }
     {
@@ -190,58 +184,30 @@ impl Lines {
         let _ = self.table.put(board, next);
     }
 
-    pub(crate) fn start(&mut self, board: u8) -> Result<(), Refusal>
-        ensures answers { result ≡ answer (shown self.old) (Start board) }
-        ensures leaves { self.new ≡ after self.old (Start board) }
+    // What an accepted call makes of its board. A start and a leave move no flag; a pull puts one that is not at rest low
+    // in change to low, and the next step makes it low.
+    fn next(&self, call: Call) -> Board
+        ensures { result ≡ next self.now call }
     {
-        match self.station(board)? {
-            Station::Out => {
-                let own = self.seat(board);
-                self.put(board, own.at(Place::Raising));
-                Ok(())
-            }
-            _ => Err(Refusal::NotOut),
-        }
-    }
-
-    pub(crate) fn step(&mut self, board: u8, bit: bool) -> Result<(), Refusal>
-        ensures answers { result ≡ answer (shown self.old) (Step board bit) }
-        ensures leaves { self.new ≡ after self.old (Step board bit) }
-    {
-        self.station(board)?;
+        let board = call.board();
         let own = self.seat(board);
-        let level = self.read(bit, own.place);
-        let boards = self.table.boards();
-        self.put(board, own.stepped(boards, board, level));
+        match call {
+            Call::Start(_) => own.at(Place::Raising),
+            Call::Step(_, bit) => {
+                let level = self.read(bit, own.place);
+                own.stepped(self.table.boards().others(board), level)
+            }
+            Call::Leave(_) => own.at(Place::Leaving),
+            Call::Pull(_) => own.lower(),
+        }
+    }
+
+    pub(crate) fn perform(&mut self, call: Call) -> Result<(), Refusal>
+        ensures answers { result ≡ answer (shown self.old) call }
+        ensures leaves { self.new ≡ after self.old call }
+    {
+        call.judge(self.station(call.board())?)?;
+        self.put(call.board(), self.next(call));
         Ok(())
-    }
-
-    pub(crate) fn leave(&mut self, board: u8) -> Result<(), Refusal>
-        ensures answers { result ≡ answer (shown self.old) (Leave board) }
-        ensures leaves { self.new ≡ after self.old (Leave board) }
-    {
-        match self.station(board)? {
-            Station::Inside => {
-                let own = self.seat(board);
-                self.put(board, own.at(Place::Leaving));
-                Ok(())
-            }
-            _ => Err(Refusal::NotInside),
-        }
-    }
-
-    // Puts a flag that is not at rest low in change to low; the next step makes it low.
-    pub(crate) fn pull(&mut self, board: u8) -> Result<(), Refusal>
-        ensures answers { result ≡ answer (shown self.old) (Pull board) }
-        ensures leaves { self.new ≡ after self.old (Pull board) }
-    {
-        match self.station(board)? {
-            Station::Trying | Station::Inside => {
-                let own = self.seat(board);
-                self.put(board, own.lower());
-                Ok(())
-            }
-            _ => Err(Refusal::NotEngaged),
-        }
     }
 }

@@ -31,14 +31,10 @@ impl Panel {
         ensures other { (before : Reading) → self.old.last ≡ Some before → alike before reading ≡ false → self.new.repaints ≡ risen self.old.repaints }
         ensures stays { self.old.repaints ≡ 4294967295 → self.new.repaints ≡ 4294967295 }
     {
-        let stands = match self.last {
-            Some(before) => before.same(reading),
-            None => false,
-        };
-        self.last = Some(reading);
-        if !stands {
+        if self.last != Some(reading) {
             self.repaint();
         }
+        self.last = Some(reading);
     }
 
     // Counts one repaint; the count stays at its end.

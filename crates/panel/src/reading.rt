@@ -2,9 +2,11 @@
 ghost use Rattle.std.specs.Prelude.{◌≡◌, true};
 ghost use Rattle.panel.specs.Readings.{alike, made, told};
 
-// The number is in ticks, and may lie below zero.
+// The number is in ticks, and may lie below zero. Two readings are equal where their numbers are, whichever boards showed them.
 #[derive(Clone, Copy)]
+#[derive_where(PartialEq, Eq)]
 pub struct Reading {
+    #[derive_where(skip(EqHashOrd))]
     board: u8,
     number: i64,
 }
@@ -36,6 +38,6 @@ impl Reading {
         ensures only { result ≡ true → told self ≡ told other }
         ensures always { told self ≡ told other → result ≡ true }
     {
-        self.number() == other.number()
+        self == other
     }
 }

@@ -7,7 +7,7 @@ use Rattle.line.specs.declared.Level.{Level}
 use Rattle.line.specs.declared.Level.TheVariants as to
 use Rattle.line.specs.declared.Line.{Line}
 use Rattle.line.specs.declared.Line.TheVariants.{Low, Rising, High, Falling}
-use Rattle.line.specs.Rule.{begun, ended, heading, level, moving, reading}
+use Rattle.line.specs.Rule.{begun, ended, heading, level, moving, reading, high}
 use Rattle.lock.specs.declared.boards.Boards.{Boards}
 use Rattle.lock.specs.declared.station.Call.{Call}
 use Rattle.lock.specs.declared.station.Call.TheVariants.{Start, Step, Leave, Pull}
@@ -27,7 +27,7 @@ use Rattle.queue.specs.declared.state.Phase.{Phase}
 use Rattle.queue.specs.declared.state.Phase.TheVariants.{Out, Pairing, Turning, Noting, Raising, Watching, Comparing, Below, Leaving}
 use Rattle.queue.specs.declared.state.Queue.{Queue}
 use Rattle.queue.specs.declared.state.Row.{Row}
-use Rattle.queue.specs.Rule.{door, none, high, lowest, put_at, noting, pairing, watched, compared, favours, strike, z_of, station, tries, waits_at, waits, door_step, row_step, shown, door_at, row_at, read_y, read_z, seen, out_below, next_door, next_row, new_queue, queue_after}
+use Rattle.queue.specs.Rule.{door, none, lowest, put_at, noting, pairing, watched, compared, favours, strike, z_of, station, tries, waits_at, waits, door_step, row_step, shown, door_at, row_at, read_y, read_z, seen, out_below, next_door, next_row, new_queue, queue_after}
 use Rattle.queue.specs.Shown.{There, length_shown, at_shown, waits_there}
 use Rattle.queue.specs.Moves.{there_done, door_done, call_there, took, stayed}
 use Rattle.queue.specs.Fits.{never, engaged, fits_below, fits_y, Fit}

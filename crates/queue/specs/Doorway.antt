@@ -10,7 +10,7 @@ use Rattle.lock.specs.declared.station.Station.{Station}
 use Rattle.lock.specs.Most.{most}
 use Rattle.lock.specs.Others.{other_after}
 use Rattle.lock.specs.Stations.{among}
-use Rattle.lock.proofs.Others.{NextOther, Found, other_found}
+use Rattle.lock.proofs.OtherBoards.{NextOther, Found, other_found}
 use Rattle.lock.proofs.Stations.{among_from, from_among}
 use Rattle.queue.specs.declared.state.Phase.{Phase}
 use Rattle.queue.specs.declared.state.Phase.TheVariants.{Out, Pairing, Turning, Noting, Raising, Watching, Comparing, Below, Leaving}

@@ -5,7 +5,7 @@ use Rattle.std.proofs.lemmas.Bool.{eq-eqb, and_parts}
 use Rattle.line.specs.declared.Level.TheVariants as to
 use Rattle.line.specs.declared.Line.{Line}
 use Rattle.line.specs.declared.Line.TheVariants.{Low, Rising, High, Falling}
-use Rattle.line.specs.Rule.{begun, ended, moving, reading}
+use Rattle.line.specs.Rule.{begun, ended, moving, reading, low}
 use Rattle.lock.specs.declared.boards.Boards.{Boards}
 use Rattle.lock.specs.declared.station.Call.{Call}
 use Rattle.lock.specs.declared.station.Call.TheVariants.{Start, Step}
@@ -24,7 +24,7 @@ use Rattle.queue.specs.declared.state.Queue.{Queue}
 use Rattle.queue.specs.Rule.{door, watched, started, read_y, none, lowest, pairing, noted, station, sent_step, door_step, shown, door_at, row_at, seen, out_below, sent, next_door, next_row, passed_on, new_queue, queue_after}
 use Rattle.queue.specs.Shown.{There, length_shown, at_shown}
 use Rattle.queue.specs.Moves.{there_done, door_done, call_there, took}
-use Rattle.queue.specs.Fits.{never, engaged, low, out_station, fits_below, fits_y, names, can_start}
+use Rattle.queue.specs.Fits.{never, engaged, out_station, fits_below, fits_y, names, can_start}
 use Rattle.queue.specs.Keeps.{Real, Good, count_doors, known_below, length_real, row_done, calls, out_phase}
 use Rattle.queue.specs.Settles.{Left, left_alone, passes_other, own_step}
 use Rattle.queue.specs.Doorway.{left_first, to_go, pairing_go, doorway, on_way, pairing_way, some_left, nearer}

@@ -7,7 +7,7 @@ use Rattle.line.specs.declared.Level.{Level}
 use Rattle.line.specs.declared.Level.TheVariants as to
 use Rattle.line.specs.declared.Line.{Line}
 use Rattle.line.specs.declared.Line.TheVariants.{Low, Rising, High, Falling}
-use Rattle.line.specs.Rule.{begun, ended, moving, heading}
+use Rattle.line.specs.Rule.{begun, ended, moving, heading, high, low, rising}
 use Rattle.lock.specs.declared.boards.Boards.{Boards}
 use Rattle.lock.specs.declared.station.Call.{Call}
 use Rattle.lock.specs.declared.station.Call.TheVariants.{Start, Step, Pull}
@@ -18,12 +18,12 @@ use Rattle.lock.specs.Others.{other_after}
 use Rattle.lock.specs.Runs.{MovesAt}
 use Rattle.lock.specs.Stations.{among, accepted, place_of}
 use Rattle.lock.specs.Stations as stations
-use Rattle.lock.proofs.Others.{NextOther, Found, other_found}
+use Rattle.lock.proofs.OtherBoards.{NextOther, Found, other_found}
 use Rattle.lock.proofs.Stations.{among_from, from_among, start_accepted, stands_with, true≢false}
 use Rattle.queue.specs.declared.state.Phase.{Phase}
 use Rattle.queue.specs.declared.state.Phase.TheVariants.{Out, Pairing, Turning, Noting, Raising, Watching, Comparing, Below, Leaving}
 use Rattle.queue.specs.declared.state.Row.{Row}
-use Rattle.queue.specs.Rule.{high, lowest, noting, pairing, paired, turned_on, favours, opposite, line_at, put_at, z_of, half_turned, turned, settled, watched, compared, door_step, row_step, sent_step, started, passed_on, MovedBelow}
+use Rattle.queue.specs.Rule.{lowest, noting, pairing, paired, turned_on, favours, opposite, line_at, put_at, z_of, half_turned, turned, settled, watched, compared, door_step, row_step, sent_step, started, passed_on, MovedBelow}
 use Rattle.queue.specs.Lines.{OneMoves}
 use Rattle.queue.specs.Moves.{step_below}
 
@@ -66,19 +66,6 @@ fits_below Watching s = is_out s
 fits_below Comparing s = is_out s
 fits_below Below s = engaged s
 fits_below Leaving s = going s
-
--- the line is low, at rest; rising
-abbrev pub low : Line → Bool
-low Low = true
-low Rising = false
-low High = false
-low Falling = false
-
-abbrev pub rising : Line → Bool
-rising Low = false
-rising Rising = true
-rising High = false
-rising Falling = false
 
 -- which y goes with which phase
 abbrev pub fits_y : Phase → Line → Bool
@@ -275,9 +262,6 @@ stays_going : (s t : Station) → going s ≡ true → StepsBelow s t → going 
 stays_going s t h (inl e) = ap going e ∙ h
 stays_going s t h (inr (inl w)) = never (sym (ap going w.0) ∙ h)
 stays_going s t h (inr (inr w)) = ap going w.1
-
-all_rest : {n b : ℕ} {s : Station} {y : Line} {p : Phase} {r : Row} → Fit n b s y p r → ((k : ℕ) → may_move p k ≡ false) → (k : ℕ) → moving (z_of r k) ≡ false
-all_rest f none_moves k = f.rests k (none_moves k)
 
 turning_fit : (n b j : ℕ) (s : Station) (y : Line) (r : Row) → n ≤ most → Fit n b s y (Turning j) r → (t : Bool) → moving (z_of r j) ≡ t
     → Fit n b s y (turned_on n b j t) (turned r j)

@@ -5,7 +5,7 @@ use Rattle.std.proofs.lemmas.Bool.{cases_eq, cases_Bool}
 use Rattle.std.proofs.lemmas.List.{length-set, length-replicate, take-replicate}
 use Rattle.line.specs.declared.Line.{Line}
 use Rattle.line.specs.declared.Line.TheVariants.{Low, Rising, High, Falling}
-use Rattle.line.specs.Rule.{moving}
+use Rattle.line.specs.Rule.{moving, high, rising}
 use Rattle.lock.specs.declared.boards.Boards.{Boards}
 use Rattle.lock.specs.declared.station.Call.{Call}
 use Rattle.lock.specs.declared.station.Call.TheVariants.{Start, Step, Leave, Pull}
@@ -19,21 +19,16 @@ use Rattle.lock.specs.Stations.{among, board, accepted, leave_at, pull_at, place
 use Rattle.lock.specs.Stations as stations
 use Rattle.lock.specs.Tables.{listed, kept_for}
 use Rattle.lock.proofs.Runs.{run_more}
-use Rattle.lock.proofs.Stations.{true≢false, moved_to, start_accepted, leave_accepted, among_from, stands_with, all_out_at}
+use Rattle.lock.proofs.Stations.{true≢false, moved_to, start_accepted, leave_accepted, among_from, stands_with, replicate_at}
 use Rattle.lock.proofs.Tables.{listed_length, asked_same, asked_other, written_boards, written_long}
 use Rattle.lock.proofs.Local.{Calls}
 use Rattle.queue.specs.declared.state.Phase.{Phase}
 use Rattle.queue.specs.declared.state.Phase.TheVariants.{Out, Pairing, Turning, Noting, Raising, Watching, Comparing, Below, Leaving}
 use Rattle.queue.specs.declared.state.Queue.{Queue}
-use Rattle.queue.specs.Rule.{door, none, low_row, door_there as door_of, row_there, pairing, door_step, z_of, line_at, high, station, shown_from, shown, door_at, row_at, seen, out_below, sent, next_door, next_row, passed_on, MovedBelow, done, new_queue, queue_after}
+use Rattle.queue.specs.Rule.{door, none, low_row, door_there as door_of, row_there, pairing, door_step, z_of, line_at, station, shown_from, shown, door_at, row_at, seen, out_below, sent, next_door, next_row, passed_on, MovedBelow, done, new_queue, queue_after}
 use Rattle.queue.specs.Shown.{There, at_shown}
 use Rattle.queue.specs.Moves.{sent_board, others_below, was_there, door_done, door_other, call_there, took, moves_at}
-use Rattle.queue.specs.Fits.{never, is_out, engaged, going, rising, fits_below, Fit, pairing_fit, step_fit, pull_fit}
-
-replicate_at : {X : Type 0} (x : X) (k i : ℕ) → slice_index_or (replicate k x) i x ≡ x
-replicate_at x zero i = refl
-replicate_at x (suc k) zero = refl
-replicate_at x (suc k) (suc i) = replicate_at x k i
+use Rattle.queue.specs.Fits.{never, is_out, engaged, going, fits_below, Fit, pairing_fit, step_fit, pull_fit}
 
 -- what a shown station says of the phase
 pub out_phase : (s : Station) (p : Phase) → station s p ≡ at.Out → (p ≡ Out) ⊎ ((p ≡ Below) × (s ≡ at.Out))
@@ -256,7 +251,7 @@ module _ {L : Type 0} (fresh : Boards → L) (after : L → Call → L) (below :
         subst (λ d. Fit n.count b (stations.at (below (fresh n)) b) d.y d.phase (row_at (new_queue fresh n) b)) (sym (new_door n b))
         (subst (λ r. Fit n.count b (stations.at (below (fresh n)) b) Low Out r) (sym (new_row n b))
         (record {
-          below = ap is_out (ap (λ ss. stations.at ss b) (begins n) ∙ all_out_at n.count (b - 1));
+          below = ap is_out (ap (λ ss. stations.at ss b) (begins n) ∙ replicate_at at.Out n.count (b - 1));
           line = refl;
           named = refl;
           rests = λ k _. low_rests k;

@@ -7,7 +7,7 @@ use Rattle.line.specs.declared.Level.{Level}
 use Rattle.line.specs.declared.Level.TheVariants as to
 use Rattle.line.specs.declared.Line.{Line}
 use Rattle.line.specs.declared.Line.TheVariants.{Low}
-use Rattle.line.specs.Rule.{begun, ended, moving, heading}
+use Rattle.line.specs.Rule.{begun, ended, moving, heading, high}
 use Rattle.lock.specs.declared.boards.Boards.{Boards}
 use Rattle.lock.specs.declared.station.Call.{Call}
 use Rattle.lock.specs.declared.station.Call.TheVariants.{Start, Step, Leave, Pull}
@@ -24,7 +24,7 @@ use Rattle.queue.specs.declared.state.Phase.{Phase}
 use Rattle.queue.specs.declared.state.Phase.TheVariants.{Out, Pairing, Turning, Noting, Raising, Watching, Comparing, Below, Leaving}
 use Rattle.queue.specs.declared.state.Queue.{Queue}
 use Rattle.queue.specs.declared.state.Row.{Row}
-use Rattle.queue.specs.Rule.{door, none, high, lowest, noting, pairing, paired, turned_on, favours, z_of, watched, compared, door_step, sent_step, started, station, shown, door_at, row_at, seen, out_below, sent, next_door, passed_on, MovedBelow, done, queue_after}
+use Rattle.queue.specs.Rule.{door, none, lowest, noting, pairing, paired, turned_on, favours, z_of, watched, compared, door_step, sent_step, started, station, shown, door_at, row_at, seen, out_below, sent, next_door, passed_on, MovedBelow, done, queue_after}
 use Rattle.queue.specs.Shown.{There, length_shown, door_there, at_shown, moved_only}
 
 -- the phases of the doorway and of waiting belong to trying, whatever the station below

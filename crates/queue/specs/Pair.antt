@@ -11,7 +11,7 @@ use Rattle.line.specs.Rule.{begun, ended, heading, moving}
 use Rattle.lock.specs.Most.{most}
 use Rattle.lock.specs.Others.{other_after}
 use Rattle.lock.specs.Stations.{among, place_of}
-use Rattle.lock.proofs.Others.{Found, other_found}
+use Rattle.lock.proofs.OtherBoards.{Found, other_found}
 use Rattle.lock.proofs.Stations.{from_among, true≢false}
 use Rattle.queue.specs.declared.state.Phase.{Phase}
 use Rattle.queue.specs.declared.state.Phase.TheVariants.{Out, Pairing, Turning, Noting, Raising, Watching, Comparing, Below, Leaving}

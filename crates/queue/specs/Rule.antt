@@ -3,8 +3,8 @@ use Rattle.std.specs.Prelude.{ℕ, ◌+◌, Bool, true, false, cond, not, ◌&&�
 use Rattle.line.specs.declared.Level.{Level}
 use Rattle.line.specs.declared.Level.TheVariants as to
 use Rattle.line.specs.declared.Line.{Line}
-use Rattle.line.specs.declared.Line.TheVariants.{Low, Rising, High, Falling}
-use Rattle.line.specs.Rule.{begun, ended, heading, moving, reading}
+use Rattle.line.specs.declared.Line.TheVariants.{Low}
+use Rattle.line.specs.Rule.{begun, ended, heading, moving, reading, high}
 use Rattle.lock.specs.declared.boards.Boards.{Boards}
 use Rattle.lock.specs.declared.station.Call.{Call}
 use Rattle.lock.specs.declared.station.Call.TheVariants.{Start, Step, Leave, Pull}
@@ -72,12 +72,6 @@ favours b own j other = cond (same own other) (nat_lt b j) (nat_lt j b)
 abbrev pub opposite : Level → Level
 opposite to.Low = to.High
 opposite to.High = to.Low
-
-abbrev pub high : Line → Bool
-high Low = false
-high Rising = false
-high High = true
-high Falling = false
 
 -- notes: board j is noted, is struck off; the lowest that is noted
 abbrev pub note : List Bool → ℕ → List Bool

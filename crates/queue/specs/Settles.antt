@@ -2,6 +2,7 @@
 use Rattle.std.specs.Prelude.{◌≡◌, ℕ, ◌+◌, ◌≤◌, Bool, true, false, cond, ◌⊎◌, List, ◌++◌, Some, None, Option, ◌≢◌, refl}
 use Rattle.std.proofs.Common.{sym, ap, subst, ◌∙◌, inl, inr, arith}
 use Rattle.std.proofs.lemmas.Bool.{cases_eq, cases_Bool}
+use Rattle.line.specs.Rule.{high}
 use Rattle.line.specs.declared.Line.{Line}
 use Rattle.line.specs.declared.Line.TheVariants.{Low, Rising, High, Falling}
 use Rattle.lock.specs.declared.boards.Boards.{Boards}
@@ -18,7 +19,7 @@ use Rattle.lock.proofs.Local.{reached, good_after}
 use Rattle.queue.specs.declared.state.Phase.{Phase}
 use Rattle.queue.specs.declared.state.Phase.TheVariants.{Out, Pairing, Turning, Noting, Raising, Watching, Comparing, Below, Leaving}
 use Rattle.queue.specs.declared.state.Queue.{Queue}
-use Rattle.queue.specs.Rule.{door, high, lowered, station, sent_step, door_step, seen, shown, door_at, row_at, out_below, sent, passed_on, done, new_queue, queue_after}
+use Rattle.queue.specs.Rule.{door, lowered, station, sent_step, door_step, seen, shown, door_at, row_at, out_below, sent, passed_on, done, new_queue, queue_after}
 use Rattle.queue.specs.Shown.{There, length_shown, at_shown}
 use Rattle.queue.specs.Moves.{sent_board, others_below, there_done, door_done, door_other, call_there, took, stayed}
 use Rattle.queue.specs.Fits.{never, engaged, going, fits_below, steps_below, can_start}

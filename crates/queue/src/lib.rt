@@ -1,10 +1,10 @@
 // The queue layer over any lock: again a lock, and in order.
 #![tactic(auto)]
 
-ghost use Rattle.std.specs.Prelude.{◌≡◌, ◌+◌, ◌-◌, ◌*◌, true, false, is_ok};
+ghost use Rattle.std.specs.Prelude.{◌≡◌, ◌+◌, ◌-◌, ◌*◌};
 ghost use Rattle.line.specs.Rule.{reading};
-ghost use Rattle.lock.specs.declared.station.Call.TheVariants.{Start, Step, Leave, Pull};
-ghost use Rattle.lock.specs.Stations.{accepted, answer, told};
+ghost use Rattle.lock.specs.declared.station.Call.TheVariants.{Start, Pull};
+ghost use Rattle.lock.specs.Stations.{accepted, told};
 ghost use Rattle.queue.specs.Lines.{OneInChange, OwnLines, y_told};
 ghost use Rattle.queue.specs.Rule.{MovedBelow, acted, door_at, new_queue, next_door, next_row, over, queue_after, row_at, seen, sent, shown, station_there, waits, z_of};
 ghost use Rattle.queue.specs.Keeps.{all_out, Good, calls};
@@ -19,7 +19,7 @@ mod rule;
 mod state;
 
 use line::{Level, Line};
-use lock::{Boards, Call, Lock, Ordered, Refusal, Station, Table, perform};
+use lock::{Boards, Call, Lock, Ordered, Refusal, Station, Table};
 use state::Next;
 pub use state::{Door, Phase, Queue, Row};
 
@@ -34,6 +34,7 @@ impl<L: Lock> Queue<L> {
         self.line_y(board)
     }
 
+    // What `y` tells; the facts over all calls are proved of `y` from it.
     fn line_y(&self, board: u8) -> Result<Line, Refusal>
         ensures { result ≡ y_told self.now board }
     {
@@ -45,47 +46,34 @@ impl<L: Lock> Queue<L> {
     fn door(&self, board: u8) -> Door
         ensures { result ≡ door_at self.now board }
     {
-        match self.doors.record(board) {
-            Ok(own) => own,
-            Err(_) => Door::out(),
-        }
+        self.doors.record(board).unwrap_or(Door::out())
     }
 
     // The z lines of a board; those of one that is not there are low.
     fn row(&self, board: u8) -> Row
         ensures { result ≡ row_at self.now board }
     {
-        match self.rows.record(board) {
-            Ok(row) => row,
-            Err(_) => Row::low(),
-        }
+        self.rows.record(board).unwrap_or(Row::low())
     }
 
     // Whether a board is out in the lock below.
     fn is_out_below(&self, board: u8) -> bool
         ensures { result ≡ accepted (L.Lock.stations (L.Lock.state self.now.below)) (Start board) }
     {
-        match self.below.station(board) {
-            Ok(Station::Out) => true,
-            _ => false,
-        }
+        self.below.station(board) == Ok(Station::Out)
     }
 
-    // What a step of a board reads.
+    // What a step of a board reads; low where it reads nothing, which then makes no difference.
     fn read(&self, board: u8, bit: bool, own: Door) -> Level
         ensures { result ≡ seen self.now board bit own.notes own.phase }
     {
         match own.phase {
             Phase::Pairing(j) => self.read_z(j, board, bit),
             Phase::Noting(j) => self.read_y(j, bit),
-            Phase::Watching => match own.lowest() {
-                Some(j) => self.read_y(j, bit),
-                None => Level::Low,
-            },
-            Phase::Comparing => match own.lowest() {
-                Some(j) => self.read_z(j, board, bit),
-                None => Level::Low,
-            },
+            Phase::Watching => own.lowest().map_or(Level::Low, |j| self.read_y(j, bit)),
+            Phase::Comparing => own
+                .lowest()
+                .map_or(Level::Low, |j| self.read_z(j, board, bit)),
             _ => Level::Low,
         }
     }
@@ -104,7 +92,7 @@ impl<L: Lock> Queue<L> {
         self.door(j).y.read(bit)
     }
 
-    // The station of a board: that below while it is there, else by its phase.
+    // The station of a board: that below while it is there, else by its phase. The calls judge by it too.
     fn stands(&self, board: u8) -> Result<Station, Refusal>
         ensures { result ≡ told (shown (λ l. L.Lock.stations (L.Lock.state l)) self.now) board }
     {
@@ -116,22 +104,7 @@ impl<L: Lock> Queue<L> {
     fn station_below(&self, board: u8) -> Station
         ensures { result ≡ station_there (told (L.Lock.stations (L.Lock.state self.now.below)) board) }
     {
-        match self.below.station(board) {
-            Ok(station) => station,
-            Err(_) => Station::Out,
-        }
-    }
-
-    // Writes the board and its row, and makes its call, if any, in the lock below.
-    fn act(&mut self, board: u8, next: Door, row: Row, call: Option<Call>)
-        ensures leaves { over L.Lock.state self.new ≡ acted L.Lock.after L.Lock.stations (over L.Lock.state self.old) board next row call }
-        ensures moved { MovedBelow L.Lock.after L.Lock.stations L.Lock.fresh (L.Lock.state self.old.below) call }
-    {
-        let _ = self.doors.put(board, next);
-        let _ = self.rows.put(board, row);
-        if let Some(made) = call {
-            let _ = perform(&mut self.below, made);
-        }
+        self.below.station(board).unwrap_or(Station::Out)
     }
 
     // The pull that a pull of this board makes in the lock below.
@@ -144,85 +117,53 @@ impl<L: Lock> Queue<L> {
         }
     }
 
-    // What a step makes of its board and of its row, and the call that it makes in the lock below.
-    fn next(&self, board: u8, bit: bool) -> Next
-        ensures door { result.door ≡ next_door L.Lock.stations (over L.Lock.state self.now) (Step board bit) }
-        ensures row { result.row ≡ next_row L.Lock.stations (over L.Lock.state self.now) (Step board bit) }
-        ensures call { result.call ≡ sent L.Lock.stations (over L.Lock.state self.now) (Step board bit) }
+    // What an accepted call makes of its board and of its row, and the call that it makes in the lock below.
+    fn next(&self, call: Call) -> Next
+        ensures door { result.door ≡ next_door L.Lock.stations (over L.Lock.state self.now) call }
+        ensures row { result.row ≡ next_row L.Lock.stations (over L.Lock.state self.now) call }
+        ensures call { result.call ≡ sent L.Lock.stations (over L.Lock.state self.now) call }
     {
+        let board = call.board();
+        let others = self.doors.boards().others(board);
         let own = self.door(board);
         let row = self.row(board);
-        let out_below = self.is_out_below(board);
-        let level = self.read(board, bit, own);
-        Next {
-            door: own.stepped(self.doors.boards(), board, row, level, out_below),
-            row: row.stepped(own, out_below),
-            call: own.sent(board, bit, out_below),
+        match call {
+            Call::Start(_) => Next {
+                door: own.started(others),
+                row,
+                call: None,
+            },
+            Call::Step(_, bit) => {
+                let out_below = self.is_out_below(board);
+                let level = self.read(board, bit, own);
+                Next {
+                    door: own.stepped(others, row, level, out_below),
+                    row: row.stepped(own, out_below),
+                    call: own.sent(board, bit, out_below),
+                }
+            }
+            Call::Leave(_) => Next {
+                door: own.left(),
+                row,
+                call: Some(call),
+            },
+            Call::Pull(_) => Next {
+                door: own.pulled(),
+                row,
+                call: self.pull_below(board),
+            },
         }
     }
 
-    fn start_in(&mut self, board: u8) -> Result<(), Refusal>
-        ensures answers { result ≡ answer (shown L.Lock.stations (over L.Lock.state self.old)) (Start board) }
-        ensures leaves { over L.Lock.state self.new ≡ queue_after L.Lock.after L.Lock.stations (over L.Lock.state self.old) (Start board) }
-        ensures moved { is_ok result ≡ true → MovedBelow L.Lock.after L.Lock.stations L.Lock.fresh (L.Lock.state self.old.below) (sent L.Lock.stations (over L.Lock.state self.old) (Start board)) }
-        ensures kept { is_ok result ≡ false → self.new ≡ self.old }
+    // Writes the board and its row, and makes its call, if any, in the lock below.
+    fn act(&mut self, board: u8, next: Next)
+        ensures leaves { over L.Lock.state self.new ≡ acted L.Lock.after L.Lock.stations (over L.Lock.state self.old) board next.door next.row next.call }
+        ensures moved { MovedBelow L.Lock.after L.Lock.stations L.Lock.fresh (L.Lock.state self.old.below) next.call }
     {
-        match self.stands(board)? {
-            Station::Out => {
-                let own = self.door(board);
-                let row = self.row(board);
-                let boards = self.doors.boards();
-                self.act(board, own.started(boards, board), row, None);
-                Ok(())
-            }
-            _ => Err(Refusal::NotOut),
-        }
-    }
-
-    fn step_in(&mut self, board: u8, bit: bool) -> Result<(), Refusal>
-        ensures answers { result ≡ answer (shown L.Lock.stations (over L.Lock.state self.old)) (Step board bit) }
-        ensures leaves { over L.Lock.state self.new ≡ queue_after L.Lock.after L.Lock.stations (over L.Lock.state self.old) (Step board bit) }
-        ensures moved { is_ok result ≡ true → MovedBelow L.Lock.after L.Lock.stations L.Lock.fresh (L.Lock.state self.old.below) (sent L.Lock.stations (over L.Lock.state self.old) (Step board bit)) }
-        ensures kept { is_ok result ≡ false → self.new ≡ self.old }
-    {
-        self.stands(board)?;
-        let next = self.next(board, bit);
-        self.act(board, next.door, next.row, next.call);
-        Ok(())
-    }
-
-    fn leave_in(&mut self, board: u8) -> Result<(), Refusal>
-        ensures answers { result ≡ answer (shown L.Lock.stations (over L.Lock.state self.old)) (Leave board) }
-        ensures leaves { over L.Lock.state self.new ≡ queue_after L.Lock.after L.Lock.stations (over L.Lock.state self.old) (Leave board) }
-        ensures moved { is_ok result ≡ true → MovedBelow L.Lock.after L.Lock.stations L.Lock.fresh (L.Lock.state self.old.below) (sent L.Lock.stations (over L.Lock.state self.old) (Leave board)) }
-        ensures kept { is_ok result ≡ false → self.new ≡ self.old }
-    {
-        match self.stands(board)? {
-            Station::Inside => {
-                let own = self.door(board);
-                let row = self.row(board);
-                self.act(board, own.left(), row, Some(Call::Leave(board)));
-                Ok(())
-            }
-            _ => Err(Refusal::NotInside),
-        }
-    }
-
-    fn pull_out(&mut self, board: u8) -> Result<(), Refusal>
-        ensures answers { result ≡ answer (shown L.Lock.stations (over L.Lock.state self.old)) (Pull board) }
-        ensures leaves { over L.Lock.state self.new ≡ queue_after L.Lock.after L.Lock.stations (over L.Lock.state self.old) (Pull board) }
-        ensures moved { is_ok result ≡ true → MovedBelow L.Lock.after L.Lock.stations L.Lock.fresh (L.Lock.state self.old.below) (sent L.Lock.stations (over L.Lock.state self.old) (Pull board)) }
-        ensures kept { is_ok result ≡ false → self.new ≡ self.old }
-    {
-        match self.stands(board)? {
-            Station::Trying | Station::Inside => {
-                let own = self.door(board);
-                let row = self.row(board);
-                let call = self.pull_below(board);
-                self.act(board, own.pulled(), row, call);
-                Ok(())
-            }
-            _ => Err(Refusal::NotEngaged),
+        let _ = self.doors.put(board, next.door);
+        let _ = self.rows.put(board, next.row);
+        if let Some(made) = next.call {
+            let _ = self.below.perform(made);
         }
     }
 }
@@ -268,20 +209,11 @@ impl<L: Lock> Lock for Queue<L> {
         self.stands(board)
     }
 
-    fn start(&mut self, board: u8) -> Result<(), Refusal> {
-        self.start_in(board)
-    }
-
-    fn step(&mut self, board: u8, bit: bool) -> Result<(), Refusal> {
-        self.step_in(board, bit)
-    }
-
-    fn leave(&mut self, board: u8) -> Result<(), Refusal> {
-        self.leave_in(board)
-    }
-
-    fn pull(&mut self, board: u8) -> Result<(), Refusal> {
-        self.pull_out(board)
+    fn perform(&mut self, call: Call) -> Result<(), Refusal> {
+        let board = call.board();
+        call.judge(self.stands(board)?)?;
+        self.act(board, self.next(call));
+        Ok(())
     }
 }
 

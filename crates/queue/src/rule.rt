@@ -1,36 +1,23 @@
 // The rule of the queue layer for one board: its door, its row of z lines, and what it asks of the lock below.
-ghost use Rattle.std.specs.Prelude.{◌≡◌, Bool};
+ghost use Rattle.std.specs.Prelude.{◌≡◌};
 ghost use Rattle.line.specs.declared.Level.TheVariants as to;
 ghost use Rattle.line.specs.declared.Line.TheVariants.{Low};
 ghost use Rattle.line.specs.Rule.{begun};
 ghost use Rattle.lock.specs.Others.{other_after};
 ghost use Rattle.lock.specs.Stations.{place_of};
-ghost use Rattle.queue.specs.declared.state.Phase.TheVariants.{Leaving, Out};
-ghost use Rattle.queue.specs.Rule.{compared, door, door_step, favours, half_turned, high, low_row, lowered, lowest, none, noted, noting, opposite, paired, pairing, put_at, raised, row_step, same, sent_step, settled, station, turned, turned_on, waits_at, watched, z_of};
+ghost use Rattle.queue.specs.declared.state.Phase.TheVariants.{Leaving, Out, Watching};
+ghost use Rattle.queue.specs.Rule.{compared, door, door_step, favours, low_row, lowered, lowest, none, noted, noting, opposite};
+ghost use Rattle.queue.specs.Rule.{paired, pairing, put_at, raised, row_step, sent_step, settled, station, strike, turned, turned_on, waits_at, watched, z_of};
 
 use crate::state::{Door, Phase, Row};
 use line::{Level, Line};
-use lock::{Boards, Call, MAX_BOARDS, Station, place_of};
-
-// Whether two levels are one.
-fn same_level(own: Level, other: Level) -> bool
-    ensures { result ≡ same own other }
-{
-    match (own, other) {
-        (Level::Low, Level::Low) | (Level::High, Level::High) => true,
-        (Level::Low, Level::High) | (Level::High, Level::Low) => false,
-    }
-}
+use lock::{Call, MAX_BOARDS, Others, Station, place_of};
 
 // Whether the pair of board `own` at level `mine` and board j at level `its` favours `own`.
 fn pair_favours(own: u8, mine: Level, j: u8, its: Level) -> bool
     ensures { result ≡ favours own mine j its }
 {
-    if same_level(mine, its) {
-        own < j
-    } else {
-        j < own
-    }
+    if mine == its { own < j } else { j < own }
 }
 
 fn opposite_of(level: Level) -> Level
@@ -42,20 +29,19 @@ fn opposite_of(level: Level) -> Level
     }
 }
 
-// The lowest board that is noted.
-fn lowest_noted(notes: &[bool; MAX_BOARDS]) -> Option<u8>
-    ensures { result ≡ lowest notes.now }
+// The array with board j's place written, if it has one.
+fn placed<T: Copy>(items: [T; MAX_BOARDS], j: u8, item: T) -> [T; MAX_BOARDS]
+    ensures { result ≡ put_at items (place_of j) item }
 {
-    for i in 0..MAX_BOARDS {
-        if notes[i] {
-            return Some(i as u8 + 1);
-        }
+    let mut items = items;
+    if let Some(i) = place_of(j) {
+        items[i] = item;
     }
-    None
+    items
 }
 
 impl Phase {
-    // The station that a phase belongs to, of a board that is at station `below` in the lock below.
+    // The station that a phase belongs to, of a board that is at station `below` in the lock below; a `From` sees one value alone.
     pub(crate) fn station(self, below: Station) -> Station
         ensures { result ≡ station below self }
     {
@@ -73,7 +59,7 @@ impl Phase {
     {
         match self {
             Phase::Watching | Phase::Comparing => true,
-            Phase::Below => matches!(below, Station::Trying),
+            Phase::Below => below == Station::Trying,
             _ => false,
         }
     }
@@ -89,47 +75,36 @@ impl Phase {
     }
 
     // Judges the pairs with the other boards from this one on, then reads their y.
-    fn pairing(boards: Boards, own: u8, next: Option<u8>) -> Phase
-        ensures { result ≡ pairing boards.count own next }
+    fn pairing(others: Others, next: Option<u8>) -> Phase
+        ensures { result ≡ pairing others.boards.count others.own next }
     {
         match next {
             Some(j) => Phase::Pairing(j),
-            None => Phase::noting(boards.other_after(own, 0)),
+            None => Phase::noting(others.after(0)),
         }
     }
 
     // Goes on once the own z line for board j has its new level.
-    fn turned(boards: Boards, own: u8, j: u8, ends: bool) -> Phase
-        ensures { result ≡ turned_on boards.count own j ends }
+    fn turned(others: Others, j: u8, ends: bool) -> Phase
+        ensures { result ≡ turned_on others.boards.count others.own j ends }
     {
         if ends {
-            Phase::pairing(boards, own, boards.other_after(own, j))
+            Phase::pairing(others, others.after(j))
         } else {
             Phase::Turning(j)
         }
     }
 
     // Goes on once the pair with board j has been judged.
-    fn paired(boards: Boards, own: u8, j: u8, favoured: bool) -> Phase
-        ensures { result ≡ paired boards.count own j favoured }
+    fn paired(others: Others, j: u8, favoured: bool) -> Phase
+        ensures { result ≡ paired others.boards.count others.own j favoured }
     {
         if favoured {
             Phase::Turning(j)
         } else {
-            Phase::pairing(boards, own, boards.other_after(own, j))
+            Phase::pairing(others, others.after(j))
         }
     }
-}
-
-// The notes with board j noted, or struck off.
-fn marked(notes: [bool; MAX_BOARDS], j: u8, mark: bool) -> [bool; MAX_BOARDS]
-    ensures { result ≡ put_at notes (place_of j) mark }
-{
-    let mut marks = notes;
-    if let Some(i) = place_of(j) {
-        marks[i] = mark;
-    }
-    marks
 }
 
 impl Row {
@@ -152,38 +127,23 @@ impl Row {
         }
     }
 
-    // One half of a change of a z line.
-    fn half_turned(line: Line) -> Line
-        ensures { result ≡ half_turned line }
-    {
-        if line.in_change() {
-            line.end()
-        } else {
-            line.begin(opposite_of(line.heading()))
-        }
-    }
-
     // One half of a change of the z line for board j.
     fn turned(self, j: u8) -> Row
         ensures { result ≡ turned self j }
     {
-        let line = Row::half_turned(self.line(j));
-        let mut z = self.z;
-        if let Some(i) = place_of(j) {
-            z[i] = line;
+        let line = self.line(j);
+        Row {
+            z: placed(self.z, j, line.change(opposite_of(line.heading()))),
         }
-        Row { z }
     }
 
     // A z line in change gets its new level.
     fn settled(self) -> Row
         ensures { result ≡ settled self }
     {
-        let mut z = self.z;
-        for line in z.iter_mut() {
-            *line = line.end();
+        Row {
+            z: self.z.map(Line::end),
         }
-        Row { z }
     }
 
     // The row of a board after its step.
@@ -192,16 +152,10 @@ impl Row {
     {
         match own.phase {
             Phase::Turning(j) => self.turned(j),
-            Phase::Leaving if out_below && !is_high(own.y) => self.settled(),
+            Phase::Leaving if out_below && own.y != Line::High => self.settled(),
             _ => self,
         }
     }
-}
-
-fn is_high(line: Line) -> bool
-    ensures { result ≡ high line }
-{
-    matches!(line, Line::High)
 }
 
 impl Door {
@@ -220,26 +174,26 @@ impl Door {
     fn at(self, phase: Phase) -> Door
         ensures { result ≡ door self.y phase self.notes }
     {
-        let mut next = self;
-        next.phase = phase;
-        next
+        Door { phase, ..self }
     }
 
     // The lowest board that is noted.
     pub(crate) fn lowest(self) -> Option<u8>
         ensures { result ≡ lowest self.notes }
     {
-        lowest_noted(&self.notes)
+        let place = self.notes.iter().position(|noted| *noted)?;
+        Some(place as u8 + 1)
     }
 
-    // A started board: none is noted yet.
-    pub(crate) fn started(self, boards: Boards, own: u8) -> Door
-        ensures { result ≡ door self.y (pairing boards.count own (other_after boards.count own 0)) none }
+    // A started board: its y is as it was, and none is noted yet.
+    pub(crate) fn started(self, others: Others) -> Door
+        ensures { result ≡ door self.y (pairing others.boards.count others.own (other_after others.boards.count others.own 0)) none }
     {
-        let mut next = self;
-        next.phase = Phase::pairing(boards, own, boards.other_after(own, 0));
-        next.notes = [false; MAX_BOARDS];
-        next
+        Door {
+            y: self.y,
+            phase: Phase::pairing(others, others.after(0)),
+            ..Door::out()
+        }
     }
 
     // A board that leaves.
@@ -253,10 +207,11 @@ impl Door {
     pub(crate) fn pulled(self) -> Door
         ensures { result ≡ door (begun self.y to.Low) Leaving self.notes }
     {
-        let mut next = self;
-        next.y = self.y.begin(Level::Low);
-        next.phase = Phase::Leaving;
-        next
+        Door {
+            y: self.y.begin(Level::Low),
+            phase: Phase::Leaving,
+            ..self
+        }
     }
 
     // Board j has been read: it is noted if its y is high.
@@ -265,7 +220,18 @@ impl Door {
     {
         match level {
             Level::Low => self.notes,
-            Level::High => marked(self.notes, j, true),
+            Level::High => placed(self.notes, j, true),
+        }
+    }
+
+    // The board looks for the lowest noted board again, with board j struck off.
+    fn struck_off(self, j: u8) -> Door
+        ensures { result ≡ door self.y Watching (strike self.notes j) }
+    {
+        Door {
+            phase: Phase::Watching,
+            notes: placed(self.notes, j, false),
+            ..self
         }
     }
 
@@ -274,17 +240,10 @@ impl Door {
         ensures { result ≡ watched self.y self.notes out_below level (lowest self.notes) }
     {
         match self.lowest() {
-            None => self.at(if out_below {
-                Phase::Below
-            } else {
-                Phase::Watching
-            }),
+            None if out_below => self.at(Phase::Below),
+            None => self.at(Phase::Watching),
             Some(j) => match level {
-                Level::Low => Door {
-                    y: self.y,
-                    phase: Phase::Watching,
-                    notes: marked(self.notes, j, false),
-                },
+                Level::Low => self.struck_off(j),
                 Level::High => self.at(Phase::Comparing),
             },
         }
@@ -297,15 +256,10 @@ impl Door {
         match self.lowest() {
             None => self.at(Phase::Watching),
             Some(j) => {
-                let favoured = pair_favours(own, row.line(j).heading(), j, level);
-                Door {
-                    y: self.y,
-                    phase: Phase::Watching,
-                    notes: if favoured {
-                        marked(self.notes, j, false)
-                    } else {
-                        self.notes
-                    },
+                if pair_favours(own, row.line(j).heading(), j, level) {
+                    self.struck_off(j)
+                } else {
+                    self.at(Phase::Watching)
                 }
             }
         }
@@ -315,56 +269,53 @@ impl Door {
     fn raised(self) -> Door
         ensures { result ≡ raised self.y self.notes }
     {
-        let mut next = self;
-        if self.y.in_change() {
-            next.y = self.y.end();
-            next.phase = Phase::Watching;
+        let phase = if self.y.in_change() {
+            Phase::Watching
         } else {
-            next.y = self.y.begin(Level::High);
-            next.phase = Phase::Raising;
+            Phase::Raising
+        };
+        Door {
+            y: self.y.change(Level::High),
+            phase,
+            ..self
         }
-        next
     }
 
-    // Begins to lower a high y; makes any other low, and is out.
+    // Begins to lower a high y; makes any other low, and is out: as a board of the one-bit lock with its flag, on another record.
     fn lowered(self) -> Door
         ensures { result ≡ lowered self.y self.notes }
     {
-        if is_high(self.y) {
-            return self.pulled();
+        match self.y {
+            Line::High => self.pulled(),
+            _ => Door {
+                y: self.y.end(),
+                phase: Phase::Out,
+                ..self
+            },
         }
-        let mut next = self.at(Phase::Out);
-        next.y = self.y.end();
-        next
     }
 
-    // One step of this board, whose number is `own` and whose z lines are `row`, that reads `level` if it reads a line.
-    pub(crate) fn stepped(
-        self,
-        boards: Boards,
-        own: u8,
-        row: Row,
-        level: Level,
-        out_below: bool,
-    ) -> Door
-        ensures { result ≡ door_step boards.count own row level out_below self.y self.notes self.phase }
+    // One step of this board, beside the others, whose z lines are `row`, that reads `level` if it reads a line.
+    pub(crate) fn stepped(self, others: Others, row: Row, level: Level, out_below: bool) -> Door
+        ensures { result ≡ door_step others.boards.count others.own row level out_below self.y self.notes self.phase }
     {
         match self.phase {
             Phase::Out | Phase::Below => self,
             Phase::Pairing(j) => {
-                let favoured = pair_favours(own, row.line(j).heading(), j, level);
-                self.at(Phase::paired(boards, own, j, favoured))
+                let favoured = pair_favours(others.own(), row.line(j).heading(), j, level);
+                self.at(Phase::paired(others, j, favoured))
             }
-            Phase::Turning(j) => self.at(Phase::turned(boards, own, j, row.line(j).in_change())),
+            Phase::Turning(j) => self.at(Phase::turned(others, j, row.line(j).in_change())),
             Phase::Noting(j) => Door {
-                y: self.y,
-                phase: Phase::noting(boards.other_after(own, j)),
+                phase: Phase::noting(others.after(j)),
                 notes: self.noted(j, level),
+                ..self
             },
             Phase::Raising => self.raised(),
             Phase::Watching => self.watched(out_below, level),
-            Phase::Comparing => self.compared(own, row, level),
-            Phase::Leaving => { if out_below { self.lowered() } else { self } }
+            Phase::Comparing => self.compared(others.own(), row, level),
+            Phase::Leaving if out_below => self.lowered(),
+            Phase::Leaving => self,
         }
     }
 

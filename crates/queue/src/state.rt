@@ -43,11 +43,12 @@ pub struct Row {
 #[derive(Drop)]
 pub struct Queue<L> {
     pub(crate) doors: Table<Door>,
+    // apart from the doors, since the z lines are an array of row structs, read and written back by value, as the rule states them
     pub(crate) rows: Table<Row>,
     pub(crate) below: L,
 }
 
-// What a step makes of its board and of its row, and the call that it makes in the lock below.
+// What a call makes of its board and of its row, and the call that it makes in the lock below.
 #[derive(Clone, Copy)]
 pub struct Next {
     pub(crate) door: Door,

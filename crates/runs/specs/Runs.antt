@@ -43,9 +43,9 @@ filled xs n (y ∷ ys) = filled (slice_set xs n y) (n + 1) ys
 -- the events es took a to c: they belong to the history from now on, the whole history is lawful, and the panel is the one that it gives
 abbrev pub Ran : {Q S I : Type 0} → Lockwork S → (Q → S) → interpolator.Ghosts I → Analyser Q I → List Event → Analyser Q I → Type 0
 Ran W state P a es c = (n : Boards) (h : History) → Leads W state P n h a
-    → Leads W state P n (grown W P.scale (trace W P.scale n h) h es) c
-    × Lawful n.count P.scale (showing W n.count) (grown W P.scale (trace W P.scale n h) h es)
-    × (a.panel ≡ panel_of h → c.panel ≡ panel_of (grown W P.scale (trace W P.scale n h) h es))
+    → Leads W state P n (grown W P.FULL_SCALE (trace W P.FULL_SCALE n h) h es) c
+    × Lawful n.count P.FULL_SCALE (showing W n.count) (grown W P.FULL_SCALE (trace W P.FULL_SCALE n h) h es)
+    × (a.panel ≡ panel_of h → c.panel ≡ panel_of (grown W P.FULL_SCALE (trace W P.FULL_SCALE n h) h es))
 
 -- The events es were put to a new analyser of n boards. There are calls, in order, with exactly these events, whose answers and readings
 -- were filled into the two lists, each with its place; the panel is the one that they give; and their history is lawful.

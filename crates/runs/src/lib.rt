@@ -5,6 +5,7 @@ ghost use Rattle.std.specs.Prelude.{◌≡◌, ◌+◌, ◌*◌, false, [], map,
 ghost use Rattle.analyser.specs.Service.{Leads, queued, view};
 ghost use Rattle.filling.specs.Lists.{free_places};
 ghost use Rattle.queue.specs.Rule.{over};
+ghost use Rattle.runs.specs.Events.{Performed};
 ghost use Rattle.runs.specs.Runs.{Ran, Served, filled, numbered, readings as readings_in, run_answer};
 ghost use Rattle.service.specs.History.{answer_of, painted, reading_of, step_reading};
 ghost use Rattle.service.specs.Rule.{lockwork, new_view};
@@ -18,7 +19,7 @@ use interpolator::Interpolator;
 use lock::{FittingList, Lock, Ordered};
 use panel::Reading;
 use queue::Queue;
-use reply::Reply;
+pub use reply::Reply;
 use service::{Answer, Event, Progress, Refusal};
 
 // The reading that a step put on the panel.
@@ -31,35 +32,30 @@ fn shown(board: u8, told: Result<Progress, Refusal>) -> Option<Reading>
     }
 }
 
-// One event: the call that it names is made.
-fn handle<Q: Ordered, I: Interpolator>(analyser: &mut Analyser<Q, I>, event: Event) -> Reply
-    ensures answer { result.answer ≡ answer_of (reply (lockwork Q.Lock Q.Ordered.own) I.Interpolator.scale (view Q.Lock.state I.Interpolator analyser.old) event) }
-    ensures shown { result.shown ≡ reading_of (reply (lockwork Q.Lock Q.Ordered.own) I.Interpolator.scale (view Q.Lock.state I.Interpolator analyser.old) event) }
-    ensures leaves { view Q.Lock.state I.Interpolator analyser.new ≡ next (lockwork Q.Lock Q.Ordered.own) I.Interpolator.scale (view Q.Lock.state I.Interpolator analyser.old) event }
-    ensures panel { analyser.new.panel ≡ painted analyser.old.panel (reading_of (reply (lockwork Q.Lock Q.Ordered.own) I.Interpolator.scale (view Q.Lock.state I.Interpolator analyser.old) event)) }
+// One event: the call that it names is made. It carries the law on.
+pub fn handle<Q: Ordered, I: Interpolator>(analyser: &mut Analyser<Q, I>, event: Event) -> Reply
+    ensures answer { result.answer ≡ answer_of (reply (lockwork Q.Lock Q.Ordered.own) I.Interpolator.FULL_SCALE (view Q.Lock.state I.Interpolator analyser.old) event) }
+    ensures shown { result.shown ≡ reading_of (reply (lockwork Q.Lock Q.Ordered.own) I.Interpolator.FULL_SCALE (view Q.Lock.state I.Interpolator analyser.old) event) }
+    ensures leaves { view Q.Lock.state I.Interpolator analyser.new ≡ next (lockwork Q.Lock Q.Ordered.own) I.Interpolator.FULL_SCALE (view Q.Lock.state I.Interpolator analyser.old) event }
+    ensures panel { analyser.new.panel ≡ painted analyser.old.panel (reading_of (reply (lockwork Q.Lock Q.Ordered.own) I.Interpolator.FULL_SCALE (view Q.Lock.state I.Interpolator analyser.old) event)) }
+    ensures law { Performed (lockwork Q.Lock Q.Ordered.own) Q.Lock.state I.Interpolator analyser.old event result.answer analyser.new }
 {
     match event {
-        Event::Ask { board, start, stop } => {
-            let result = analyser.ask(board, start, stop);
-            Reply {
-                answer: Answer::of_ask(board, result),
-                shown: None,
-            }
-        }
+        Event::Ask { board, start, stop } => Reply {
+            answer: Answer::of_ask(board, analyser.ask(board, start, stop)),
+            shown: None,
+        },
         Event::Step { board, bit } => {
-            let result = analyser.step(board, bit);
+            let told = analyser.step(board, bit);
             Reply {
-                answer: Answer::of_step(board, result),
-                shown: shown(board, result),
+                answer: Answer::of_step(board, told),
+                shown: shown(board, told),
             }
         }
-        Event::Pull { board } => {
-            let result = analyser.pull(board);
-            Reply {
-                answer: Answer::of_pull(board, result),
-                shown: None,
-            }
-        }
+        Event::Pull { board } => Reply {
+            answer: Answer::of_pull(board, analyser.pull(board)),
+            shown: None,
+        },
     }
 }
 
@@ -72,13 +68,13 @@ pub fn run<Q: Ordered, I: Interpolator>(
     readings: &mut Filling<Stamped<Reading>>,
 ) -> Result<(), filling::Refusal>
     ensures result { result ≡ run_answer (free_places answers.old.places.now answers.old.len) (free_places readings.old.places.now readings.old.len) (length events.now) }
-    ensures leaves { MatchResult result (λ _. view Q.Lock.state I.Interpolator analyser.new ≡ after_all (lockwork Q.Lock Q.Ordered.own) I.Interpolator.scale (view Q.Lock.state I.Interpolator analyser.old) events.now) (λ _. analyser.new ≡ analyser.old) }
-    ensures panel { MatchResult result (λ _. analyser.new.panel ≡ painted_all analyser.old.panel (replies (lockwork Q.Lock Q.Ordered.own) I.Interpolator.scale (view Q.Lock.state I.Interpolator analyser.old) events.now)) (λ _. analyser.new.panel ≡ analyser.old.panel) }
-    ensures answers { MatchResult result (λ _. answers.new.places.now ≡ filled answers.old.places.now answers.old.len (numbered 0 (map answer_of (replies (lockwork Q.Lock Q.Ordered.own) I.Interpolator.scale (view Q.Lock.state I.Interpolator analyser.old) events.now)))) (λ _. answers.new ≡ answers.old) }
+    ensures leaves { MatchResult result (λ _. view Q.Lock.state I.Interpolator analyser.new ≡ after_all (lockwork Q.Lock Q.Ordered.own) I.Interpolator.FULL_SCALE (view Q.Lock.state I.Interpolator analyser.old) events.now) (λ _. analyser.new ≡ analyser.old) }
+    ensures panel { MatchResult result (λ _. analyser.new.panel ≡ painted_all analyser.old.panel (replies (lockwork Q.Lock Q.Ordered.own) I.Interpolator.FULL_SCALE (view Q.Lock.state I.Interpolator analyser.old) events.now)) (λ _. analyser.new.panel ≡ analyser.old.panel) }
+    ensures answers { MatchResult result (λ _. answers.new.places.now ≡ filled answers.old.places.now answers.old.len (numbered 0 (map answer_of (replies (lockwork Q.Lock Q.Ordered.own) I.Interpolator.FULL_SCALE (view Q.Lock.state I.Interpolator analyser.old) events.now)))) (λ _. answers.new ≡ answers.old) }
     ensures answers_len { MatchResult result (λ _. answers.new.len ≡ answers.old.len + length events.now) (λ _. answers.new.len ≡ answers.old.len) }
     ensures answers_lender { answers.new.places.ghost_name ≡ answers.old.places.ghost_name }
-    ensures readings { MatchResult result (λ _. readings.new.places.now ≡ filled readings.old.places.now readings.old.len (readings_in 0 (replies (lockwork Q.Lock Q.Ordered.own) I.Interpolator.scale (view Q.Lock.state I.Interpolator analyser.old) events.now))) (λ _. readings.new ≡ readings.old) }
-    ensures readings_len { MatchResult result (λ _. readings.new.len ≡ readings.old.len + length (readings_in 0 (replies (lockwork Q.Lock Q.Ordered.own) I.Interpolator.scale (view Q.Lock.state I.Interpolator analyser.old) events.now))) (λ _. readings.new.len ≡ readings.old.len) }
+    ensures readings { MatchResult result (λ _. readings.new.places.now ≡ filled readings.old.places.now readings.old.len (readings_in 0 (replies (lockwork Q.Lock Q.Ordered.own) I.Interpolator.FULL_SCALE (view Q.Lock.state I.Interpolator analyser.old) events.now))) (λ _. readings.new ≡ readings.old) }
+    ensures readings_len { MatchResult result (λ _. readings.new.len ≡ readings.old.len + length (readings_in 0 (replies (lockwork Q.Lock Q.Ordered.own) I.Interpolator.FULL_SCALE (view Q.Lock.state I.Interpolator analyser.old) events.now))) (λ _. readings.new.len ≡ readings.old.len) }
     ensures readings_lender { readings.new.places.ghost_name ≡ readings.old.places.ghost_name }
     ensures law { OnOk result (Ran (lockwork Q.Lock Q.Ordered.own) Q.Lock.state I.Interpolator analyser.old events.now analyser.new) }
 {
@@ -104,8 +100,8 @@ pub fn serve<L: Lock + Drop, I: Interpolator + Drop>(
     readings: &mut Filling<Stamped<Reading>>,
 ) -> Result<Analyser<Queue<L>, I>, filling::Refusal>
     ensures result { is_ok result ≡ is_ok (run_answer (free_places answers.old.places.now answers.old.len) (free_places readings.old.places.now readings.old.len) (length events.now)) }
-    ensures law { IfOk result (λ a. Served list.boards.count I.Interpolator.scale (4 * list.boards.count + 4 + L.Lock.alone list.boards.count) events.now answers.old.places.now answers.old.len answers.new.places.now readings.old.places.now readings.old.len readings.new.places.now a.panel) }
-    ensures leads { IfOk result (λ a. Leads (queued L.Lock) (over L.Lock.state) I.Interpolator list.boards (grown (queued L.Lock) I.Interpolator.scale (new_view (queued L.Lock) I.Interpolator.scale list.boards) [] events.now) a) }
+    ensures law { IfOk result (λ a. Served list.boards.count I.Interpolator.FULL_SCALE (4 * list.boards.count + 4 + L.Lock.alone list.boards.count) events.now answers.old.places.now answers.old.len answers.new.places.now readings.old.places.now readings.old.len readings.new.places.now a.panel) }
+    ensures leads { IfOk result (λ a. Leads (queued L.Lock) (over L.Lock.state) I.Interpolator list.boards (grown (queued L.Lock) I.Interpolator.FULL_SCALE (new_view (queued L.Lock) I.Interpolator.FULL_SCALE list.boards) [] events.now) a) }
     ensures answers { is_ok result ≡ false → answers.new ≡ answers.old }
     ensures answers_lender { answers.new.places.ghost_name ≡ answers.old.places.ghost_name }
     ensures readings { is_ok result ≡ false → readings.new ≡ readings.old }

@@ -5,6 +5,6 @@ use service::Answer;
 // Its answer, and the reading that it put on the panel, if any.
 #[derive(Clone, Copy)]
 pub struct Reply {
-    pub(crate) answer: Answer,
-    pub(crate) shown: Option<Reading>,
+    pub answer: Answer,
+    pub shown: Option<Reading>,
 }

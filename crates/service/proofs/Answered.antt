@@ -7,7 +7,7 @@ use Rattle.lock.specs.declared.station.Call.TheVariants.{Start, Pull}
 use Rattle.lock.specs.declared.station.Station.TheVariants.{Out as Outside, Trying, Inside as Within, Leaving as Going}
 use Rattle.lock.specs.Most.{most}
 use Rattle.lock.specs.Stations.{among, at}
-use Rattle.lock.proofs.Stations.{among_from, from_among, all_out_at, stands_with, out≢trying, trying≢leaving}
+use Rattle.lock.proofs.Stations.{among_from, from_among, replicate_at, stands_with, out≢trying, trying≢leaving}
 use Rattle.service.specs.declared.progress.Progress.{Progress}
 use Rattle.service.specs.declared.refusal.Refusal.{Refusal}
 use Rattle.service.specs.declared.refusal.Refusal.TheVariants.{NoSuchBoard}
@@ -53,7 +53,7 @@ module _ {S : Type 0} (W : Lockwork S) (full : ℕ) (K : Keeps W) where
   first : (n : Boards) → Agreed n [] (new_view W full n)
   first n =
       let out = K.begins n in
-      let at_out : (b : ℕ) → at (W.stations (W.fresh n)) b ≡ Outside = λ b. ap (λ ss. at ss b) out ∙ all_out_at n.count (b - 1) in
+      let at_out : (b : ℕ) → at (W.stations (W.fresh n)) b ≡ Outside = λ b. ap (λ ss. at ss b) out ∙ replicate_at Outside n.count (b - 1) in
       record {
         boards = refl;
         long = length-replicate most blank;

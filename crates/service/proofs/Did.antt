@@ -52,7 +52,7 @@ module _ {S : Type 0} (W : Lockwork S) (full : ℕ) (v : View S) (i : ℕ) (bit 
   by_standing : (s : Standing) → DidAs (step_at W full v i bit (own v i) s)
   by_standing Out = record { call = inl refl; sets = refl }
   by_standing Doorway =
-      elim (passed W full stepped.lock i) as (λ y. DidAs (cond y (outcome (with_own stepped i (gone (own v i) Waiting)) Passed) (outcome stepped Working))) [
+      elim (passed W stepped.lock i) as (λ y. DidAs (cond y (outcome (with_own stepped i (gone (own v i) Waiting)) Passed) (outcome stepped Working))) [
         | true ↦ record { call = inr (inl refl); sets = refl }
         | false ↦ record { call = inr (inl refl); sets = refl }
       ]

@@ -109,17 +109,17 @@ module _ {S : Type 0} (W : Lockwork S) (full : ℕ) (K : Keeps W) where
         idle Inside no_so = absurd (no_so refl)
         idle Leaving _ = tt
 
-    door_step : (own v b).standing ≡ Doorway → StepOk n h b bit (doorway_step W full v b bit r)
+    door_step : (own v b).standing ≡ Doorway → StepOk n h b bit (doorway_step W v b bit r)
     door_step e =
         let f = as_standing n h v b Doorway g t e in
         let k = known W full n h v b g t in
         let tries = (doors_at W K n v.lock g.real (Step b bit) acc).0.0 (k.0, k.1, f.1.below) f.1.waits in
         by_wait (W.waits l' b) refl f.0 f.1 tries.2
       where
-        told_it : (y : Bool) → W.waits l' b ≡ y → passed W full l' b ≡ y
+        told_it : (y : Bool) → W.waits l' b ≡ y → passed W l' b ≡ y
         told_it y w = let k = known' in ap (λ x. x && W.waits l' b) (among_from (length (W.stations l')) b k.0 k.1) ∙ w
 
-        by_wait : (y : Bool) → W.waits l' b ≡ y → station h b ≡ Doorway → FitsAt W full v b (Doorway, a, d) → at (W.stations l') b ≡ Trying → StepOk n h b bit (doorway_step W full v b bit r)
+        by_wait : (y : Bool) → W.waits l' b ≡ y → station h b ≡ Doorway → FitsAt W full v b (Doorway, a, d) → at (W.stations l') b ≡ Trying → StepOk n h b bit (doorway_step W v b bit r)
         by_wait true w p f now_at =
             subst (λ y. StepOk n h b bit (cond y (outcome (with_own (with_lock v l') b (gone r Waiting)) Passed) (outcome (with_lock v l') Working))) (sym (told_it true w))
             (record {
@@ -132,7 +132,7 @@ module _ {S : Type 0} (W : Lockwork S) (full : ℕ) (K : Keeps W) where
             subst (λ y. StepOk n h b bit (cond y (outcome (with_own (with_lock v l') b (gone r Waiting)) Passed) (outcome (with_lock v l') Working))) (sym (told_it false w))
             (works_on Doorway p f now_at (w ∙ sym f.waits) (λ x. let q : ◌≡◌ {A = ℕ} 0 1 = cc in omega arith) (inl refl))
 
-    wait_step : (own v b).standing ≡ Waiting → StepOk n h b bit (waiting_step W full v b bit r)
+    wait_step : (own v b).standing ≡ Waiting → StepOk n h b bit (waiting_step W v b bit r)
     wait_step e =
         let f = as_standing n h v b Waiting g t e in
         elim ((doors_at W K n v.lock g.real (Step b bit) acc).0.1 f.1.waits) [
@@ -140,12 +140,12 @@ module _ {S : Type 0} (W : Lockwork S) (full : ℕ) (K : Keeps W) where
           | inr inside ↦ enters f.0 f.1 inside.2
         ]
       where
-        still : station h b ≡ Waiting → FitsAt W full v b (Waiting, a, d) → W.waits l' b ≡ true → at (W.stations l') b ≡ Trying → StepOk n h b bit (waiting_step W full v b bit r)
+        still : station h b ≡ Waiting → FitsAt W full v b (Waiting, a, d) → W.waits l' b ≡ true → at (W.stations l') b ≡ Trying → StepOk n h b bit (waiting_step W v b bit r)
         still p f w now_at =
             subst (λ y. StepOk n h b bit (cond y (outcome (struck (with_own (with_lock v l') b (arrived r)) b) Entered) (outcome (with_lock v l') Working))) (sym (ap is_inside (told_now ∙ ap Ok now_at)))
             (works_on Waiting p f now_at (w ∙ sym f.waits) (λ x. let q : ◌≡◌ {A = ℕ} 0 1 = cc in omega arith) (inl refl))
 
-        enters : station h b ≡ Waiting → FitsAt W full v b (Waiting, a, d) → at (W.stations l') b ≡ Within → StepOk n h b bit (waiting_step W full v b bit r)
+        enters : station h b ≡ Waiting → FitsAt W full v b (Waiting, a, d) → at (W.stations l') b ≡ Within → StepOk n h b bit (waiting_step W v b bit r)
         enters p f now_at =
             subst (λ y. StepOk n h b bit (cond y (outcome (struck (with_own (with_lock v l') b (arrived r)) b) Entered) (outcome (with_lock v l') Working))) (sym (ap is_inside (told_now ∙ ap Ok now_at)))
             (record {
@@ -156,7 +156,7 @@ module _ {S : Type 0} (W : Lockwork S) (full : ℕ) (K : Keeps W) where
               allowed = subst (λ s. StepAt s d z Entered) (sym p) (inr refl);
             })
 
-    leave_step : (own v b).standing ≡ Leaving → StepOk n h b bit (leaving_step W full v b bit r)
+    leave_step : (own v b).standing ≡ Leaving → StepOk n h b bit (leaving_step W v b bit r)
     leave_step e =
         let f = as_standing n h v b Leaving g t e in
         let k = known W full n h v b g t in
@@ -168,12 +168,12 @@ module _ {S : Type 0} (W : Lockwork S) (full : ℕ) (K : Keeps W) where
           | inr (inr w) ↦ comes_out f.0 f.1 (now_at ∙ w.1)
         ]
       where
-        still : station h b ≡ Leaving → FitsAt W full v b (Leaving, a, d) → at (W.stations l') b ≡ Going → StepOk n h b bit (leaving_step W full v b bit r)
+        still : station h b ≡ Leaving → FitsAt W full v b (Leaving, a, d) → at (W.stations l') b ≡ Going → StepOk n h b bit (leaving_step W v b bit r)
         still p f now_at =
             subst (λ y. StepOk n h b bit (cond y (outcome (with_own (with_lock v l') b (gone r Out)) CameOut) (outcome (with_lock v l') Working))) (sym (ap is_out (told_now ∙ ap Ok now_at)))
             (works_on Leaving p f now_at (waits_not W K n l' stepping.real b (λ x. trying≢leaving (sym x ∙ now_at)) ∙ sym f.waits) (λ x. let q : ◌≡◌ {A = ℕ} 0 1 = cc in omega arith) (inl refl))
 
-        comes_out : station h b ≡ Leaving → FitsAt W full v b (Leaving, a, d) → at (W.stations l') b ≡ Outside → StepOk n h b bit (leaving_step W full v b bit r)
+        comes_out : station h b ≡ Leaving → FitsAt W full v b (Leaving, a, d) → at (W.stations l') b ≡ Outside → StepOk n h b bit (leaving_step W v b bit r)
         comes_out p f now_at =
             subst (λ y. StepOk n h b bit (cond y (outcome (with_own (with_lock v l') b (gone r Out)) CameOut) (outcome (with_lock v l') Working))) (sym (ap is_out (told_now ∙ ap Ok now_at)))
             (record {

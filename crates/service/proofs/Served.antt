@@ -74,7 +74,7 @@ module _ {S : Type 0} (W : Lockwork S) (full : ℕ) (K : Keeps W) where
       ap (λ w. w.lock) (cond-true (there v b) (step_outcome W full v b bit).left v t)
       ∙ ap (λ p. (step_at W full v b bit (own v b) p).left.lock) e
       ∙ elim (from_trying s try) [
-        | inl door ↦ ap (λ p. (step_at W full v b bit (own v b) p).left.lock) door ∙ at_door (passed W full (W.after v.lock (Step b bit)) b)
+        | inl door ↦ ap (λ p. (step_at W full v b bit (own v b) p).left.lock) door ∙ at_door (passed W (W.after v.lock (Step b bit)) b)
         | inr wait ↦ ap (λ p. (step_at W full v b bit (own v b) p).left.lock) wait ∙ at_wait (is_inside (told (W.stations (W.after v.lock (Step b bit))) b))
       ]
     where

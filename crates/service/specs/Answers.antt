@@ -14,6 +14,11 @@ accepted l b k z = record { letter = l; board = b; sign = Plus; number = k; valu
 abbrev pub refused : Letter → ℕ → Refusal → Answer
 refused l b e = record { letter = l; board = b; sign = Minus; number = refused_by e; value = pos 0 }
 
+-- the answer to a call that is told by a number and a value, or refused
+abbrev pub printed : Letter → ℕ → Result (ℕ × ℤ) Refusal → Answer
+printed l b (Ok (k, z)) = accepted l b k z
+printed l b (Err e) = refused l b e
+
 -- an accepted ask tells the boards ahead
 abbrev pub of_ask : ℕ → Result ℕ Refusal → Answer
 of_ask b (Ok boards) = accepted A b 0 (pos boards)

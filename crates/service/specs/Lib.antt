@@ -1,3 +1,4 @@
+pub mod Names
 pub mod Numbers
 pub mod Records
 pub mod Answers

@@ -118,10 +118,7 @@ pub record Outcome (S : Type 0) : Type 0 where
 abbrev pub outcome : {S : Type 0} → View S → Progress → Outcome S
 outcome v p = record { left = v; tells = p }
 
-module _ {S : Type 0} (W : Lockwork S) (full : ℕ) where
-  abbrev pub new_view : Boards → View S
-  new_view n = record { boards = n; lock = W.fresh n; counts = record { start = 0; stop = 0 }; records = replicate most blank; sets = replicate most (replicate most false) }
-
+module _ {S : Type 0} (W : Lockwork S) where
   -- the lock tells that board b has passed its doorway
   abbrev pub passed : S → ℕ → Bool
   passed l b = among (length (W.stations l)) b && W.waits l b
@@ -141,6 +138,10 @@ module _ {S : Type 0} (W : Lockwork S) (full : ℕ) where
       let w = with_lock v (W.after v.lock (Step b bit)) in
       cond (is_out (told (W.stations w.lock) b)) (outcome (with_own w b (gone r Out)) CameOut) (outcome w Working)
 
+module _ {S : Type 0} (W : Lockwork S) (full : ℕ) where
+  abbrev pub new_view : Boards → View S
+  new_view n = record { boards = n; lock = W.fresh n; counts = record { start = 0; stop = 0 }; records = replicate most blank; sets = replicate most (replicate most false) }
+
   -- inside: put start, put stop, take start, take stop; then show the second taken minus the first, and leave
   abbrev pub inside_step : View S → ℕ → Record → Stage → Outcome S
   inside_step v b r Arrived = outcome (with_own (with_counts v (put full r.start v.counts.start) v.counts.stop) b (staged r StartPut)) Working
@@ -151,10 +152,10 @@ module _ {S : Type 0} (W : Lockwork S) (full : ℕ) where
 
   abbrev pub step_at : View S → ℕ → Bool → Record → Standing → Outcome S
   step_at v b bit r Out = outcome v Idle
-  step_at v b bit r Doorway = doorway_step v b bit r
-  step_at v b bit r Waiting = waiting_step v b bit r
+  step_at v b bit r Doorway = doorway_step W v b bit r
+  step_at v b bit r Waiting = waiting_step W v b bit r
   step_at v b bit r Inside = inside_step v b r r.stage
-  step_at v b bit r Leaving = leaving_step v b bit r
+  step_at v b bit r Leaving = leaving_step W v b bit r
 
   abbrev pub step_outcome : View S → ℕ → Bool → Outcome S
   step_outcome v b bit = step_at v b bit (own v b) (own v b).standing

@@ -1,6 +1,6 @@
 // Why an analyser in service refuses a call.
 ghost use Rattle.std.specs.Prelude.{◌≡◌};
-ghost use Rattle.service.specs.Numbers.{refused_by};
+ghost use Rattle.service.specs.Numbers.{passed_on, refused_by};
 
 #[derive(Clone, Copy, PartialEq, Eq, Debug)]
 pub enum Refusal {
@@ -14,16 +14,27 @@ pub enum Refusal {
     NotEngaged,
 }
 
-impl Refusal {
-    // The number by which the refusal is told.
-    pub fn number(self) -> u8
-        ensures { result ≡ refused_by self }
-    {
-        match self {
+// The number by which the refusal is told.
+impl From<Refusal> for u8 {
+    ghost from_gives = { λ refusal n. n ≡ refused_by refusal };
+
+    fn from(refusal: Refusal) -> u8 {
+        match refusal {
             Refusal::NoSuchBoard => 1,
             Refusal::NotOut => 2,
             Refusal::AboveFullScale => 3,
             Refusal::NotEngaged => 4,
+        }
+    }
+}
+
+// What an interpolator refuses, an analyser refuses for the same reason.
+impl From<interpolator::Refusal> for Refusal {
+    ghost from_gives = { λ refusal result. result ≡ passed_on refusal };
+
+    fn from(refusal: interpolator::Refusal) -> Refusal {
+        match refusal {
+            interpolator::Refusal::AboveFullScale => Refusal::AboveFullScale,
         }
     }
 }

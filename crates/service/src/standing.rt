@@ -1,4 +1,10 @@
 // The station of a board in service: where it stands, by its own calls.
+ghost use Rattle.std.specs.Prelude.{Some};
+ghost use Rattle.std.specs.Fmt.{padded};
+ghost use Rattle.service.specs.Names.{standing_name};
+
+use std::fmt;
+
 #[derive(Clone, Copy, PartialEq, Eq, Debug)]
 pub enum Standing {
     Out,
@@ -9,4 +15,20 @@ pub enum Standing {
     // at the interpolator
     Inside,
     Leaving,
+}
+
+impl fmt::Display for Standing {
+    ghost output = { λ standing. Some (standing_name standing) };
+
+    ghost styled_output = { λ standing spec. Some (padded spec (standing_name standing)) };
+
+    fn fmt<W: fmt::Write>(&self, f: &mut fmt::Formatter<W>) -> fmt::Result {
+        f.pad(match self {
+            Standing::Out => "out",
+            Standing::Doorway => "doorway",
+            Standing::Waiting => "waiting",
+            Standing::Inside => "inside",
+            Standing::Leaving => "leaving",
+        })
+    }
 }

@@ -1,7 +1,9 @@
 -- Facts of an analyser in service, at one and at two boards, found by computing.
 use Rattle.std.specs.Prelude.{◌≡◌, ℕ, Bool, true, List, [], ◌∷◌, ◌++◌, map, replicate, pos, neg_ℤ, Some, None, Ok, Err, Option}
-use Rattle.cell.specs.contracts.CellLockLock.TheImpl as cell
-use Rattle.cell.specs.declared.plane.Backplane.{Backplane}
+use Rattle.backplane.specs.contracts.held_lock.HeldLockLock.TheImpl as held
+use Rattle.backplane.specs.declared.plane.Backplane.{Backplane}
+use Rattle.cell.specs.contracts.Cell as the_cell
+use Rattle.cell.specs.contracts.CellTaking.TheImpl as cell
 use Rattle.interpolator.specs.contracts.gap_kind.GapInterpolator.TheImpl as gap
 use Rattle.interpolator.specs.contracts.register.RegisterInterpolator.TheImpl as register
 use Rattle.lock.specs.declared.boards.Boards.{Boards}
@@ -27,14 +29,14 @@ abbrev on_one_bit : Lockwork (Queue Lines)
 on_one_bit = queued one_bit.ghosts
 
 abbrev on_cell : Lockwork (Queue Backplane)
-on_cell = queued cell.ghosts
+on_cell = queued (held.ghosts the_cell.the_row cell.ghosts cell.dict)
 
 -- the full scale of each kind of interpolator: 4,294,967,295 and 16,777,215
 abbrev register_scale : ℕ
-register_scale = (register.ghosts).scale
+register_scale = (register.ghosts).FULL_SCALE
 
 abbrev gap_scale : ℕ
-gap_scale = (gap.ghosts).scale
+gap_scale = (gap.ghosts).FULL_SCALE
 
 module _ {State : Type 0} (W : Lockwork State) (full : ℕ) (n : Boards) where
   -- the events on a new analyser of n boards, with their answers

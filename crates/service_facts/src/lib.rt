@@ -16,11 +16,11 @@ mod tests {
     use queue::Queue;
     use service::Refusal;
 
-    // The number by which an ask or a pull is refused, 0 where it is accepted.
+    // The number by which an ask or a pull is refused, 0 where it is accepted, as a printed answer has it.
     fn number<T: Copy>(answer: Result<T, Refusal>) -> u8 {
         match answer {
             Ok(_) => 0,
-            Err(refusal) => refusal.number(),
+            Err(refusal) => refusal.into(),
         }
     }
 

@@ -8,11 +8,11 @@ use buyer::{LatchLock, Summed};
 use interpolator::{Interpolator, Register};
 use lock::{FitRefusal, FittingList, Lock, Ordered};
 use one_bit::OneBit;
-use perform::perform;
 use queue::Queue;
-use service::{Answer, Event, Letter, Sign, Standing};
-
-mod perform;
+use runs::handle;
+use service::{Answer, Event, Standing};
+use std::fmt;
+use std::iter::repeat_n;
 
 // Board 2 passes its doorway, then boards 1 and 3 ask and find it ahead of them. 2 goes inside and shows its number while the
 // others contend; 3 is pulled while it waits, asks again, and is refused once; 1 shows its number, and then 3.
@@ -231,38 +231,26 @@ fn three_boards<L: Lock, I: Interpolator>() -> Result<Analyser<Queue<L>, I>, Fit
     Ok(Analyser::put_into_service(list))
 }
 
-fn letter(answer: Answer) -> char {
-    match answer.letter {
-        Letter::A => 'A',
-        Letter::S => 'S',
-        Letter::P => 'P',
+// The station of a board, for a table: one that is not there has none. The words are those of this table alone.
+#[derive(Drop)]
+struct Place(Option<Standing>);
+
+impl fmt::Display for Place {
+    fn fmt<W: fmt::Write>(&self, f: &mut fmt::Formatter<W>) -> fmt::Result {
+        match self.0 {
+            Some(standing) => standing.fmt(f),
+            None => f.pad("none"),
+        }
     }
 }
 
-fn sign(answer: Answer) -> char {
-    match answer.sign {
-        Sign::Plus => '+',
-        Sign::Minus => '-',
-    }
-}
-
-fn station_name<Q: Ordered, I: Interpolator>(analyser: &Analyser<Q, I>, board: u8) -> &'static str {
-    match analyser.station(board) {
-        Ok(Standing::Out) => "out",
-        Ok(Standing::Doorway) => "doorway",
-        Ok(Standing::Waiting) => "waiting",
-        Ok(Standing::Inside) => "inside",
-        Ok(Standing::Leaving) => "leaving",
-        Err(_) => "none",
-    }
+fn place_of<Q: Ordered, I: Interpolator>(analyser: &Analyser<Q, I>, board: u8) -> Place {
+    Place(analyser.station(board).ok())
 }
 
 // The set ahead of a board; 0 of one that is not there.
 fn ahead<Q: Ordered, I: Interpolator>(analyser: &Analyser<Q, I>, board: u8) -> u32 {
-    match analyser.ahead(board) {
-        Ok(boards) => boards,
-        Err(_) => 0,
-    }
+    analyser.ahead(board).unwrap_or(0)
 }
 
 fn print_row<Q: Ordered, I: Interpolator>(
@@ -271,17 +259,24 @@ fn print_row<Q: Ordered, I: Interpolator>(
     analyser: &Analyser<Q, I>,
     answer: Answer,
 ) -> anyhow::Result<()> {
-    let (letter, sign) = (letter(answer), sign(answer));
-    let (board, number, value) = (answer.board, answer.number, answer.value);
-    let first = station_name(analyser, 1);
-    let second = station_name(analyser, 2);
-    let third = station_name(analyser, 3);
+    let Answer {
+        letter,
+        board,
+        sign,
+        number,
+        value,
+    } = answer;
+    let (first, second, third) = (
+        place_of(analyser, 1),
+        place_of(analyser, 2),
+        place_of(analyser, 3),
+    );
     let (a, b, c) = (ahead(analyser, 1), ahead(analyser, 2), ahead(analyser, 3));
     let repaints = analyser.repaints();
-    let (shown, by) = match analyser.reading() {
-        Some(reading) => (reading.number(), reading.board()),
-        None => (0, 0),
-    };
+    // zeros where there is no reading yet
+    let (shown, by) = analyser
+        .reading()
+        .map_or((0, 0), |reading| (reading.number(), reading.board()));
     println!(rt;
         "{no:>3}  {letter} {board}  {sign}{number}  {value:>11}  {first:<7} {second:<7} {third:<7}  {a} {b} {c}  {by} {shown:>11} {repaints}"
     )?;
@@ -300,13 +295,12 @@ fn hold<L: Lock + Drop, I: Interpolator + Drop>(
     println!(rt;
         " no  call answer     value  board 1 board 2 board 3  ahead  panel: board, number, repaints"
     )?;
-    let mut no: usize = 0;
-    for (event, times) in turns {
-        for _ in 0..*times {
-            let answer = perform(&mut analyser, *event);
-            no = no.saturating_add(1);
-            print_row(rt, no, &analyser, answer)?;
-        }
+    let events = turns
+        .iter()
+        .flat_map(|(event, times)| repeat_n(*event, usize::from(*times)));
+    for (no, event) in (1..).zip(events) {
+        let answer = handle(&mut analyser, event).answer;
+        print_row(rt, no, &analyser, answer)?;
     }
     Ok(())
 }

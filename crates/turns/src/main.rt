@@ -6,12 +6,12 @@ mod play;
 mod row;
 
 use anyhow::anyhow;
-use line::Line;
-use lock::{Boards, Call, Lock, Ordered, Refusal, Station, perform};
+use lock::{Boards, Call, Lock, Ordered, Refusal, Station};
 use one_bit::OneBit;
 use play::play;
 use queue::Queue;
 use row::Row;
+use std::fmt;
 
 // Boards 1 and 2 contend, and 2 gives way; 1 reads 2's flag in change at both bits. Board 3 waits for 1, a lower board,
 // and 2 is pulled while it raises its flag. Then some calls are refused, and 2 waits for 3, a higher board.
@@ -93,26 +93,33 @@ const QUEUED: [(Call, u8); 21] = [
     (Call::Step(3, false), 10),
 ];
 
-fn line_name(line: Line) -> &'static str {
-    match line {
-        Line::Low => "low",
-        Line::Rising => "rising",
-        Line::High => "high",
-        Line::Falling => "falling",
+// Where a board stands, for a table: a dash for one that is not there. Over the queue layer a trying board is in its doorway, or waits.
+#[derive(Drop)]
+enum Place {
+    At(Station),
+    Doorway,
+    Waiting,
+    Nowhere,
+}
+
+impl From<Result<Station, Refusal>> for Place {
+    fn from(station: Result<Station, Refusal>) -> Place {
+        station.map_or(Place::Nowhere, Place::At)
     }
 }
 
-fn station_name(station: Result<Station, Refusal>) -> &'static str {
-    match station {
-        Ok(Station::Out) => "out",
-        Ok(Station::Trying) => "trying",
-        Ok(Station::Inside) => "inside",
-        Ok(Station::Leaving) => "leaving",
-        Err(_) => "-",
+impl fmt::Display for Place {
+    fn fmt<W: fmt::Write>(&self, f: &mut fmt::Formatter<W>) -> fmt::Result {
+        match self {
+            Place::At(station) => station.fmt(f),
+            Place::Doorway => f.pad("doorway"),
+            Place::Waiting => f.pad("waiting"),
+            Place::Nowhere => f.pad("-"),
+        }
     }
 }
 
-// What is called, of which board, and with which bit.
+// What is called, of which board, and with which bit: three columns of the table, so three texts and not one.
 fn call_parts(call: Call) -> (&'static str, u8, &'static str) {
     match call {
         Call::Start(board) => ("start", board, "-"),
@@ -123,43 +130,40 @@ fn call_parts(call: Call) -> (&'static str, u8, &'static str) {
     }
 }
 
-// The number by which a call was refused, 0 where it was accepted.
+// The number by which a call was refused, 0 where it was accepted, as the column has it.
 fn refused_by(answer: Result<(), Refusal>) -> u8 {
     match answer {
         Ok(()) => 0,
-        Err(refusal) => refusal.number(),
+        Err(refusal) => refusal.into(),
     }
 }
 
 fn print_row(rt: &impl Print, place: usize, row: Row) -> anyhow::Result<()> {
     let (name, board, bit) = call_parts(row.call);
     let refused = refused_by(row.answer);
-    let first = line_name(row.flags[0]);
-    let second = line_name(row.flags[1]);
-    let third = line_name(row.flags[2]);
-    let station = station_name(row.station);
+    let [first, second, third] = row.flags;
+    let station = Place::from(row.station);
     println!(rt;
         "{place:>3}  {name:<5}  {board:>5}  {bit:>3}  {refused:>7}  {first:<7}  {second:<7}  {third:<7}  {station}"
     )?;
     Ok(())
 }
 
-// Where a board stands over the queue layer: a trying board is in its doorway, or waits.
-fn standing(lock: &Queue<OneBit>, board: u8) -> &'static str {
+fn standing(lock: &Queue<OneBit>, board: u8) -> Place {
     match (lock.station(board), lock.waiting(board)) {
-        (Ok(Station::Trying), Ok(false)) => "doorway",
-        (Ok(Station::Trying), _) => "waiting",
-        (station, _) => station_name(station),
+        (Ok(Station::Trying), Ok(false)) => Place::Doorway,
+        (Ok(Station::Trying), _) => Place::Waiting,
+        (station, _) => station.into(),
     }
 }
 
-// Makes a call so many times; the number by which the last was refused, 0 where it was accepted.
-fn perform_times(lock: &mut Queue<OneBit>, call: Call, times: u8) -> u8 {
-    let mut refused = 0;
+// Makes a call so many times, and tells the last answer.
+fn perform_times(lock: &mut Queue<OneBit>, call: Call, times: u8) -> Result<(), Refusal> {
+    let mut answer = Ok(());
     for _ in 0..times {
-        refused = refused_by(perform(lock, call));
+        answer = lock.perform(call);
     }
-    refused
+    answer
 }
 
 fn print_queued(
@@ -167,9 +171,10 @@ fn print_queued(
     lock: &Queue<OneBit>,
     call: Call,
     times: u8,
-    refused: u8,
+    answer: Result<(), Refusal>,
 ) -> anyhow::Result<()> {
     let (name, board, _) = call_parts(call);
+    let refused = refused_by(answer);
     let first = standing(lock, 1);
     let second = standing(lock, 2);
     let third = standing(lock, 3);
@@ -183,8 +188,8 @@ fn take_turns_in_order(rt: &HostRuntime, boards: Boards) -> anyhow::Result<()> {
     println!(rt; "\ncall   board  times  refused  board 1  board 2  board 3")?;
     let mut lock: Queue<OneBit> = Queue::new(boards);
     for (call, times) in QUEUED {
-        let refused = perform_times(&mut lock, call, times);
-        print_queued(rt, &lock, call, times, refused)?;
+        let answer = perform_times(&mut lock, call, times);
+        print_queued(rt, &lock, call, times, answer)?;
     }
     Ok(())
 }
@@ -195,8 +200,8 @@ fn take_turns(rt: &HostRuntime) -> anyhow::Result<()> {
     };
     println!(rt; " no  call   board  bit  refused  flag 1   flag 2   flag 3   station")?;
     let rows = play(rt.alloc(), boards, &SCHEDULE)?;
-    for (i, row) in rows.iter().enumerate() {
-        print_row(rt, i + 1, *row)?;
+    for (place, row) in (1..).zip(&rows) {
+        print_row(rt, place, *row)?;
     }
     take_turns_in_order(rt, boards)
 }

@@ -1,13 +1,13 @@
 // Calls on a one-bit lock, one after the other, each with what it did.
 ghost use Rattle.std.specs.Prelude.{◌≡◌, ℕ, take, IfOk};
 ghost use Rattle.lock.specs.Runs.{run};
-ghost use Rattle.lock.specs.Stations.{AtMostOne, board};
+ghost use Rattle.lock.specs.Stations.{AtMostOne};
 ghost use Rattle.one_bit.specs.Rule.{after, fresh, seat, shown};
 ghost use Rattle.turns.specs.Rows.{row_of, rows_of};
 
 use crate::row::Row;
 use line::Line;
-use lock::{Boards, Call, Lock, perform};
+use lock::{Boards, Call, Lock};
 use one_bit::OneBit;
 use std::alloc::{AllocError, Global};
 
@@ -15,19 +15,7 @@ use std::alloc::{AllocError, Global};
 fn flag(lock: &OneBit, board: u8) -> Line
     ensures { result ≡ (seat lock.now.lines board).flag }
 {
-    match lock.flag(board) {
-        Ok(line) => line,
-        Err(_) => Line::Low,
-    }
-}
-
-// The board that a call names.
-fn board_of(call: Call) -> u8
-    ensures { result ≡ board call }
-{
-    match call {
-        Call::Start(board) | Call::Step(board, _) | Call::Leave(board) | Call::Pull(board) => board,
-    }
+    lock.flag(board).unwrap_or(Line::Low)
 }
 
 // Makes one call, and tells what it did.
@@ -35,8 +23,8 @@ pub fn turn(lock: &mut OneBit, call: Call) -> Row
     ensures tells { result ≡ row_of lock.old.lines call }
     ensures leaves { lock.new.lines ≡ after lock.old.lines call }
 {
-    let answer = perform(lock, call);
-    let station = lock.station(board_of(call));
+    let answer = lock.perform(call);
+    let station = lock.station(call.board());
     Row {
         call,
         answer,

@@ -16,7 +16,7 @@ use Rattle.runs.proofs.run.Goals.{in-Some+in_ok-push-2, in_default}
 
 pub loop-place-preserved : goal.loop-place-preserved
 loop-place-preserved g c =
-    let W = lockwork g.Q.Lock g.Q.Ordered in let full = g.I.Interpolator.scale in
+    let W = lockwork g.Q.Lock g.Q.Ordered in let full = g.I.Interpolator.FULL_SCALE in
     let see = view g.Q.Lock.state g.I.Interpolator in
     let v = see c.loop-place.analyser in let v' = see c.handle-reply.new.analyser in
     let xs = c.args.events.now in let i = c.loop-place.place in let lt = c.loop-place-test.true in
@@ -92,19 +92,19 @@ returns g c =
     let es = c.args.events.now in let i = c.loop-place.place in
     let inv = c.loop-place.invariant in
     let none = drop_all i es c.loop-place-test.false in
-    let leaves = ap (after_all W P.scale v) (sym none) ∙ inv.0 in
-    let paints = ap (λ ys. painted_all c.loop-place.analyser.panel (replies W P.scale v ys)) (sym none) ∙ inv.1 in
+    let leaves = ap (after_all W P.FULL_SCALE v) (sym none) ∙ inv.0 in
+    let paints = ap (λ ys. painted_all c.loop-place.analyser.panel (replies W P.FULL_SCALE v ys)) (sym none) ∙ inv.1 in
     let A = c.loop-place.answers in let R = c.loop-place.readings in
     record {
       result = enough (free_places c.args.answers.now.places.now c.args.answers.now.len) (free_places c.args.readings.now.places.now c.args.readings.now.len) (length es)
           (omega arith) (omega arith);
       leaves = leaves;
       panel = paints;
-      answers = ap (λ ys. filled A.places.now A.len (numbered i (map answer_of (replies W P.scale v ys)))) (sym none) ∙ inv.2;
+      answers = ap (λ ys. filled A.places.now A.len (numbered i (map answer_of (replies W P.FULL_SCALE v ys)))) (sym none) ∙ inv.2;
       answers_len = omega (arith, inv.3);
       answers_lender = inv.9;
-      readings = ap (λ ys. filled R.places.now R.len (readings i (replies W P.scale v ys))) (sym none) ∙ inv.5;
-      readings_len = let k = ap (λ ys. length (readings i (replies W P.scale v ys))) none in omega (arith, inv.6, k);
+      readings = ap (λ ys. filled R.places.now R.len (readings i (replies W P.FULL_SCALE v ys))) (sym none) ∙ inv.5;
+      readings_len = let k = ap (λ ys. length (readings i (replies W P.FULL_SCALE v ys))) none in omega (arith, inv.6, k);
       readings_lender = inv.10;
       law = run_carries W g.Q.Lock.state P K c.args.analyser.now c.loop-place.analyser es leaves paints;
     }

@@ -9,7 +9,7 @@ use Rattle.runs.proofs.run.Given as goal
 
 abbrev pub invariant-loop-place : goal.invariant-loop-place
 invariant-loop-place g l =
-    let W = lockwork g.Q.Lock g.Q.Ordered in let full = g.I.Interpolator.scale in
+    let W = lockwork g.Q.Lock g.Q.Ordered in let full = g.I.Interpolator.FULL_SCALE in
     let v = view g.Q.Lock.state g.I.Interpolator l.analyser in let v₀ = view g.Q.Lock.state g.I.Interpolator l.initial.analyser in
     let left = replies W full v (drop l.place l.events) in let all = replies W full v₀ l.events in
     (after_all W full v (drop l.place l.events) ≡ after_all W full v₀ l.events)

@@ -13,7 +13,7 @@ use Rattle.runs.proofs.serve.Goals as goal
 
 pub returns : goal.returns
 returns g c =
-    let W = queued g.L.Lock in let full = g.I.Interpolator.scale in let n = c.args.list.boards in let es = c.args.events.now in
+    let W = queued g.L.Lock in let full = g.I.Interpolator.FULL_SCALE in let n = c.args.list.boards in let es = c.args.events.now in
     let made = c.put_into_service-analyser.ensures in let ran = c.in_ok-run.ensures in
     let v = new_view W full n in let calls = replies W full v es in
     let comes = made.leads.comes in

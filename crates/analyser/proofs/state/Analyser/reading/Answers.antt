@@ -3,8 +3,5 @@ use Rattle.std.proofs.Common.{ap, ◌∙◌}
 use Rattle.service.proofs.Grown.{panel_last}
 use Rattle.analyser.proofs.state.Analyser.reading.Goals as goal
 
-pub returns : goal.returns
-returns g c = record {
-  tells = c.reading.ensures;
-  law = λ h e. c.reading.ensures ∙ ap (λ p. p.last) e ∙ panel_last h;
-}
+pub returns-clause-law : goal.returns-clause-law
+returns-clause-law g c = λ h e. c.reading.ensures ∙ ap (λ p. p.last) e ∙ panel_last h

@@ -22,5 +22,5 @@ returns-in_err-own c =
 
 pub returns : goal.returns
 returns c =
-    ap Ok c.station.ensures
+    ap Ok c.from.ensures
     ∙ tells c.args.self.now c.args.board c.record.result _ c.in_ok-own.was (c.record.ensures (board Low Out))

@@ -1,0 +1,16 @@
+-- One event, and its answer.
+use Rattle.std.specs.Prelude.{◌≡◌}
+use Rattle.interpolator.specs.declared.Interpolator as interpolator
+use Rattle.service.specs.declared.answer.Answer.{Answer}
+use Rattle.service.specs.declared.event.Event.{Event}
+use Rattle.service.specs.History.{Entry, event_of, answer_of}
+use Rattle.service.specs.Rule.{Lockwork}
+use Rattle.analyser.specs.declared.state.Analyser.{Analyser}
+use Rattle.analyser.specs.Service.{Carries}
+
+-- one call has this event and this answer, and took a to c: it carries the law on
+pub record Performed {Q S I : Type 0} (W : Lockwork S) (state : Q → S) (P : interpolator.Ghosts I) (a : Analyser Q I) (e : Event) (r : Answer) (c : Analyser Q I) : Type 0 where
+  pub call : Entry
+  pub event : event_of call ≡ e
+  pub answer : answer_of call ≡ r
+  pub law : Carries W state P a call c
