@@ -1,5 +1,5 @@
 // The work of each call on an analyser, step by step. It stands apart from the public calls, since the law is proved from its
-// contract once, and not at each return.
+// contract once, and not at each return; so what a public call promises of the panel and the interpolator, its work promises too.
 ghost use Rattle.std.specs.Prelude.{◌≡◌, true, false, pos, ◌-ℤ◌, is_ok, Ok, MatchResult};
 ghost use Rattle.lock.specs.Stations.{among};
 ghost use Rattle.service.specs.declared.refusal.Refusal.TheVariants.{NoSuchBoard};

@@ -21,7 +21,8 @@ impl Model for Ahead {
 }
 
 // A record, and the set of boards ahead, for each board that there can be (place b - 1 is board b's). The two stand apart, since a
-// call changes one record alone, while a board that is struck off leaves every set.
+// call changes one record alone, while a board that is struck off leaves every set; and a record is lent to be changed in place,
+// which a `Table` does not do.
 #[derive(Clone, Copy)]
 pub struct Desk {
     pub(crate) records: [Record; MAX_BOARDS],

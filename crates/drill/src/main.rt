@@ -51,7 +51,7 @@ impl Dice {
     }
 }
 
-// A letter for each station; the drill prints one sign a board, and not its name.
+// One sign a board, as the drill prints it; `Display` would give the station's name.
 fn station_letter(station: Result<Station, Refusal>) -> char {
     match station {
         Ok(Station::Out) => 'o',
@@ -62,7 +62,7 @@ fn station_letter(station: Result<Station, Refusal>) -> char {
     }
 }
 
-// Likewise a sign for each line.
+// One sign a flag likewise.
 fn line_letter(line: Result<Line, Refusal>) -> char {
     match line {
         Ok(Line::Low) => '_',

@@ -22,10 +22,7 @@ mod tests {
     // The number by which a call is refused after others, 0 where it is accepted, as a printed answer has it.
     fn refused<L: Lock + Drop>(boards: u8, calls: &[Call], call: Call) -> Option<u8> {
         let mut lock: L = replay(Boards::new(boards)?, calls);
-        match lock.perform(call) {
-            Ok(()) => Some(0),
-            Err(refusal) => Some(refusal.into()),
-        }
+        Some(lock.perform(call).err().map_or(0, u8::from))
     }
 
     // Both flags are high, and each board has read the other's; then 2 steps, and 1 steps.

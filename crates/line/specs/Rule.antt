@@ -9,6 +9,11 @@ use Rattle.line.specs.declared.Line.TheVariants.{Low, Rising, High, Falling}
 abbrev pub level : Bool → Level
 level bit = cond bit to.High to.Low
 
+-- the other level
+abbrev pub opposite : Level → Level
+opposite to.Low = to.High
+opposite to.High = to.Low
+
 -- the line is in change
 abbrev pub moving : Line → Bool
 moving Low = false

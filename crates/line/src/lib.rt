@@ -4,9 +4,10 @@
 ghost use Rattle.std.specs.Prelude.{◌≡◌, true, false, Some};
 ghost use Rattle.std.specs.Fmt.{padded};
 ghost use Rattle.line.specs.Names.{line_name};
-ghost use Rattle.line.specs.Rule.{begun, changed, ended, heading, level, moving, reading, resting};
+ghost use Rattle.line.specs.Rule.{begun, changed, ended, heading, level, moving, opposite, reading, resting};
 
 use std::fmt;
+use std::ops::Not;
 
 // What a line at rest has, and what a reading gives.
 #[derive(Clone, Copy, PartialEq, Eq, Debug)]
@@ -21,6 +22,20 @@ impl From<bool> for Level {
 
     fn from(bit: bool) -> Level {
         if bit { Level::High } else { Level::Low }
+    }
+}
+
+// The other level.
+impl Not for Level {
+    type Output = Level;
+
+    ghost not_gives = { λ level other. other ≡ opposite level };
+
+    fn not(self) -> Level {
+        match self {
+            Level::Low => Level::High,
+            Level::High => Level::Low,
+        }
     }
 }
 
@@ -53,10 +68,7 @@ impl Line {
     pub fn in_change(self) -> bool
         ensures { result ≡ moving self }
     {
-        match self {
-            Line::Rising | Line::Falling => true,
-            Line::Low | Line::High => false,
-        }
+        matches!(self, Line::Rising | Line::Falling)
     }
 
     // A reading: what the step's bit says where the line is in change, else the line's level.
@@ -101,9 +113,9 @@ impl Line {
         ensures gives { result ≡ ended self }
         ensures rests { moving result ≡ false }
     {
-        match self {
-            Line::Low | Line::Falling => Line::Low,
-            Line::Rising | Line::High => Line::High,
+        match self.heading() {
+            Level::Low => Line::Low,
+            Level::High => Line::High,
         }
     }
 

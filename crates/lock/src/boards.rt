@@ -16,7 +16,8 @@ pub struct Boards {
 }
 
 impl Boards {
-    // So many boards, or nothing where there are none or too many, as `NonZeroU8::new` has it.
+    // So many boards, or nothing where there are none or too many, as `NonZeroU8::new` has it: an error
+    // would tell no more.
     pub fn new(count: u8) -> Option<Boards>
         ensures { MatchOption result ((count < 1) ⊎ (most < count)) (λ n. n.count ≡ count) }
     {
@@ -38,13 +39,7 @@ impl Boards {
     pub(crate) fn one_more(self) -> Option<Boards>
         ensures { MatchOption result (most ≤ self.count) (λ n. (self.count < most) × (n.count ≡ self.count + 1)) }
     {
-        if usize::from(self.count) < MAX_BOARDS {
-            Some(Boards {
-                count: self.count + 1,
-            })
-        } else {
-            None
-        }
+        Boards::new(self.count + 1)
     }
 
     pub fn count(self) -> u8
@@ -92,21 +87,24 @@ impl Others {
     pub fn own(self) -> u8
         ensures { result ≡ self.own }
     {
-        let Others { own, .. } = self;
-        own
+        self.own
     }
 
     // The lowest of the others above j.
     pub fn after(self, j: u8) -> Option<u8>
         ensures { result ≡ other_after self.boards.count self.own j }
     {
-        let count = self.boards.count;
-        let past = if j < count && j + 1 == self.own {
-            self.own
+        let Others { boards, own } = self;
+        let past = if j < boards.count && j + 1 == own {
+            own
         } else {
             j
         };
-        if past < count { Some(past + 1) } else { None }
+        if past < boards.count {
+            Some(past + 1)
+        } else {
+            None
+        }
     }
 }
 

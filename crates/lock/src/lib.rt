@@ -49,7 +49,8 @@ pub trait Lock: Sized {
     fn station(&self, board: u8) -> Result<Station, Refusal>
         ensures { result ≡ told (stations (state self.now)) board };
 
-    // Makes a call: the board is judged first, then its station. A refused call changes nothing.
+    // Makes a call: the board is judged first, then its station. A refused call changes nothing: that is a fact about a call, and
+    // not about a value, so it stands in the contract of each.
     fn perform(&mut self, call: Call) -> Result<(), Refusal>
         ensures answers { result ≡ answer (stations (state self.old)) call }
         ensures leaves { state self.new ≡ after (state self.old) call }

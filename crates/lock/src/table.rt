@@ -21,7 +21,7 @@ pub fn place_of(board: u8) -> Option<usize>
     }
 }
 
-// There is room for as many boards as there can be; the first N records are in use.
+// There is room for as many boards as there can be, in an array, as there is no heap; the first N records are in use.
 #[derive(Clone, Copy)]
 pub struct Table<T> {
     pub(crate) boards: Boards,

@@ -109,7 +109,8 @@ impl Board {
         }
     }
 
-    // Begins to lower a high flag; makes any other low, and is out. A door does the like with its y, on a record of its own.
+    // Begins to lower a high flag; makes any other low, and is out. A door of the queue
+    // layer does the like with its y; what the two share is in `Line`.
     fn go_out(self) -> Board
         ensures { result ≡ lowered self.flag }
     {
@@ -168,7 +169,8 @@ impl Lines {
         Ok(own.flag)
     }
 
-    // What a step reads of a flag, if its board's place names one; low where it reads none, which then makes no difference.
+    // What a step reads of a flag, if its board's place names one; low where it reads none, which then makes no difference: an Option would make
+    // each rule say so once more.
     fn read(&self, bit: bool, place: Place) -> Level
         ensures { result ≡ seen self.now bit place }
     {

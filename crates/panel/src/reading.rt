@@ -32,7 +32,8 @@ impl Reading {
         self.number
     }
 
-    // Whether two readings are the same: their numbers are equal, whichever boards showed them.
+    // Whether two readings are the same, as the panel's rule calls what `==` tells: their numbers are equal, whichever boards
+    // showed them.
     pub fn same(self, other: Reading) -> bool
         ensures tells { result ≡ alike self other }
         ensures only { result ≡ true → told self ≡ told other }

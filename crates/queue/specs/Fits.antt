@@ -7,7 +7,7 @@ use Rattle.line.specs.declared.Level.{Level}
 use Rattle.line.specs.declared.Level.TheVariants as to
 use Rattle.line.specs.declared.Line.{Line}
 use Rattle.line.specs.declared.Line.TheVariants.{Low, Rising, High, Falling}
-use Rattle.line.specs.Rule.{begun, ended, moving, heading, high, low, rising}
+use Rattle.line.specs.Rule.{begun, ended, moving, heading, high, low, rising, opposite}
 use Rattle.lock.specs.declared.boards.Boards.{Boards}
 use Rattle.lock.specs.declared.station.Call.{Call}
 use Rattle.lock.specs.declared.station.Call.TheVariants.{Start, Step, Pull}
@@ -23,7 +23,7 @@ use Rattle.lock.proofs.Stations.{among_from, from_among, start_accepted, stands_
 use Rattle.queue.specs.declared.state.Phase.{Phase}
 use Rattle.queue.specs.declared.state.Phase.TheVariants.{Out, Pairing, Turning, Noting, Raising, Watching, Comparing, Below, Leaving}
 use Rattle.queue.specs.declared.state.Row.{Row}
-use Rattle.queue.specs.Rule.{lowest, noting, pairing, paired, turned_on, favours, opposite, line_at, put_at, z_of, half_turned, turned, settled, watched, compared, door_step, row_step, sent_step, started, passed_on, MovedBelow}
+use Rattle.queue.specs.Rule.{lowest, noting, pairing, paired, turned_on, favours, line_at, put_at, z_of, half_turned, turned, settled, watched, compared, door_step, row_step, sent_step, started, passed_on, MovedBelow}
 use Rattle.queue.specs.Lines.{OneMoves}
 use Rattle.queue.specs.Moves.{step_below}
 

@@ -7,7 +7,7 @@ use Rattle.line.specs.declared.Level.{Level}
 use Rattle.line.specs.declared.Level.TheVariants as to
 use Rattle.line.specs.declared.Line.{Line}
 use Rattle.line.specs.declared.Line.TheVariants.{Low, Rising, High, Falling}
-use Rattle.line.specs.Rule.{begun, ended, heading, moving}
+use Rattle.line.specs.Rule.{begun, ended, heading, moving, opposite}
 use Rattle.lock.specs.Most.{most}
 use Rattle.lock.specs.Others.{other_after}
 use Rattle.lock.specs.Stations.{among, place_of}
@@ -16,7 +16,7 @@ use Rattle.lock.proofs.Stations.{from_among, true≢false}
 use Rattle.queue.specs.declared.state.Phase.{Phase}
 use Rattle.queue.specs.declared.state.Phase.TheVariants.{Out, Pairing, Turning, Noting, Raising, Watching, Comparing, Below, Leaving}
 use Rattle.queue.specs.declared.state.Row.{Row}
-use Rattle.queue.specs.Rule.{door, same, favours, opposite, put_at, note, strike, lowest_from, lowest, noted, noting, pairing, paired, turned_on, z_of, half_turned, turned, watched, compared, door_step, row_step}
+use Rattle.queue.specs.Rule.{door, same, favours, put_at, note, strike, lowest_from, lowest, noted, noting, pairing, paired, turned_on, z_of, half_turned, turned, watched, compared, door_step, row_step}
 use Rattle.queue.specs.Fits.{never, turned_here, turned_other}
 
 -- board j is noted

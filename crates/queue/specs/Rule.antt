@@ -4,7 +4,7 @@ use Rattle.line.specs.declared.Level.{Level}
 use Rattle.line.specs.declared.Level.TheVariants as to
 use Rattle.line.specs.declared.Line.{Line}
 use Rattle.line.specs.declared.Line.TheVariants.{Low}
-use Rattle.line.specs.Rule.{begun, ended, heading, moving, reading, high}
+use Rattle.line.specs.Rule.{begun, ended, heading, moving, opposite, reading, high}
 use Rattle.lock.specs.declared.boards.Boards.{Boards}
 use Rattle.lock.specs.declared.station.Call.{Call}
 use Rattle.lock.specs.declared.station.Call.TheVariants.{Start, Step, Leave, Pull}
@@ -68,10 +68,6 @@ same to.High to.High = true
 
 abbrev pub favours : ℕ → Level → ℕ → Level → Bool
 favours b own j other = cond (same own other) (nat_lt b j) (nat_lt j b)
-
-abbrev pub opposite : Level → Level
-opposite to.Low = to.High
-opposite to.High = to.Low
 
 -- notes: board j is noted, is struck off; the lowest that is noted
 abbrev pub note : List Bool → ℕ → List Bool

@@ -63,7 +63,8 @@ impl<L: Lock> Queue<L> {
         self.below.station(board) == Ok(Station::Out)
     }
 
-    // What a step of a board reads; low where it reads nothing, which then makes no difference.
+    // What a step of a board reads; low where it reads nothing, which then makes no difference: an Option would make each rule
+    // say so once more.
     fn read(&self, board: u8, bit: bool, own: Door) -> Level
         ensures { result ≡ seen self.now board bit own.notes own.phase }
     {
@@ -111,10 +112,10 @@ impl<L: Lock> Queue<L> {
     fn pull_below(&self, board: u8) -> Option<Call>
         ensures { result ≡ sent L.Lock.stations (over L.Lock.state self.now) (Pull board) }
     {
-        match self.below.station(board) {
-            Ok(Station::Trying | Station::Inside) => Some(Call::Pull(board)),
-            _ => None,
-        }
+        let pull = Call::Pull(board);
+        let station = self.below.station(board).ok()?;
+        pull.judge(station).ok()?;
+        Some(pull)
     }
 
     // What an accepted call makes of its board and of its row, and the call that it makes in the lock below.

@@ -6,7 +6,7 @@ ghost use Rattle.line.specs.Rule.{begun};
 ghost use Rattle.lock.specs.Others.{other_after};
 ghost use Rattle.lock.specs.Stations.{place_of};
 ghost use Rattle.queue.specs.declared.state.Phase.TheVariants.{Leaving, Out, Watching};
-ghost use Rattle.queue.specs.Rule.{compared, door, door_step, favours, low_row, lowered, lowest, none, noted, noting, opposite};
+ghost use Rattle.queue.specs.Rule.{compared, door, door_step, favours, low_row, lowered, lowest, none, noted, noting};
 ghost use Rattle.queue.specs.Rule.{paired, pairing, put_at, raised, row_step, sent_step, settled, station, strike, turned, turned_on, waits_at, watched, z_of};
 
 use crate::state::{Door, Phase, Row};
@@ -18,15 +18,6 @@ fn pair_favours(own: u8, mine: Level, j: u8, its: Level) -> bool
     ensures { result ≡ favours own mine j its }
 {
     if mine == its { own < j } else { j < own }
-}
-
-fn opposite_of(level: Level) -> Level
-    ensures { result ≡ opposite level }
-{
-    match level {
-        Level::Low => Level::High,
-        Level::High => Level::Low,
-    }
 }
 
 // The array with board j's place written, if it has one.
@@ -117,7 +108,7 @@ impl Row {
         }
     }
 
-    // The z line for board j.
+    // The z line for board j. A closure would not know that the place lies within the row.
     pub(crate) fn line(self, j: u8) -> Line
         ensures { result ≡ z_of self j }
     {
@@ -133,7 +124,7 @@ impl Row {
     {
         let line = self.line(j);
         Row {
-            z: placed(self.z, j, line.change(opposite_of(line.heading()))),
+            z: placed(self.z, j, line.change(!line.heading())),
         }
     }
 
@@ -281,7 +272,8 @@ impl Door {
         }
     }
 
-    // Begins to lower a high y; makes any other low, and is out: as a board of the one-bit lock with its flag, on another record.
+    // Begins to lower a high y; makes any other low, and is out: as a board of the one-bit lock with its flag; what the
+    // two share is in `Line`.
     fn lowered(self) -> Door
         ensures { result ≡ lowered self.y self.notes }
     {
@@ -324,10 +316,7 @@ impl Door {
         ensures { result ≡ sent_step own bit out_below self.notes self.phase }
     {
         match self.phase {
-            Phase::Watching => match self.lowest() {
-                None => Some(Call::Start(own)),
-                Some(_) => None,
-            },
+            Phase::Watching if self.lowest().is_none() => Some(Call::Start(own)),
             Phase::Below => Some(Call::Step(own, bit)),
             Phase::Leaving if !out_below => Some(Call::Step(own, bit)),
             _ => None,

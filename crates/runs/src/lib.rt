@@ -32,7 +32,8 @@ fn shown(board: u8, told: Result<Progress, Refusal>) -> Option<Reading>
     }
 }
 
-// One event: the call that it names is made. It carries the law on.
+// One event: the call that it names is made. It carries the law on. Lock, full scale and view are written out in the clauses, since
+// no definition can name the lock and the interpolator of a bound.
 pub fn handle<Q: Ordered, I: Interpolator>(analyser: &mut Analyser<Q, I>, event: Event) -> Reply
     ensures answer { result.answer ≡ answer_of (reply (lockwork Q.Lock Q.Ordered.own) I.Interpolator.FULL_SCALE (view Q.Lock.state I.Interpolator analyser.old) event) }
     ensures shown { result.shown ≡ reading_of (reply (lockwork Q.Lock Q.Ordered.own) I.Interpolator.FULL_SCALE (view Q.Lock.state I.Interpolator analyser.old) event) }

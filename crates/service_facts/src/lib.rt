@@ -18,10 +18,7 @@ mod tests {
 
     // The number by which an ask or a pull is refused, 0 where it is accepted, as a printed answer has it.
     fn number<T: Copy>(answer: Result<T, Refusal>) -> u8 {
-        match answer {
-            Ok(_) => 0,
-            Err(refusal) => refusal.into(),
-        }
+        answer.err().map_or(0, u8::from)
     }
 
     // Of two boards, 1 has asked and 2 is out. Board, station and counts are judged in this order.

@@ -132,10 +132,7 @@ fn call_parts(call: Call) -> (&'static str, u8, &'static str) {
 
 // The number by which a call was refused, 0 where it was accepted, as the column has it.
 fn refused_by(answer: Result<(), Refusal>) -> u8 {
-    match answer {
-        Ok(()) => 0,
-        Err(refusal) => refusal.into(),
-    }
+    answer.err().map_or(0, u8::from)
 }
 
 fn print_row(rt: &impl Print, place: usize, row: Row) -> anyhow::Result<()> {
