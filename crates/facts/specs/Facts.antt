@@ -9,7 +9,13 @@ use Rattle.lock.specs.declared.station.Station.{Station}
 use Rattle.lock.specs.declared.station.Station.TheVariants.{Out, Trying, Inside, Leaving}
 use Rattle.lock.specs.Runs.{run}
 use Rattle.lock.specs.Stations.{told}
+use Rattle.backplane.specs.contracts.held_lock.HeldLockLock.TheImpl as held
 use Rattle.backplane.specs.declared.plane.Backplane.{Backplane}
+use Rattle.buyer.specs.contracts.latch.Latch as the_latch
+use Rattle.buyer.specs.contracts.latch.LatchTaking.TheImpl as latch_taking
+use Rattle.buyer.specs.Latch as latch
+use Rattle.cell.specs.contracts.Cell as the_cell
+use Rattle.cell.specs.contracts.CellTaking.TheImpl as cell_taking
 use Rattle.cell.specs.Rule as cell
 use Rattle.one_bit.specs.declared.lines.Lines.{Lines}
 use Rattle.one_bit.specs.Rule.{after, flag_told, fresh, shown}
@@ -74,3 +80,8 @@ pub record Facts : Type 0 where
   pub twice_enters : told (twice_shown (twice_on two (Start 1 ∷ steps_of 15 1))) 1 ≡ Ok Inside
   pub twice_leaves : told (twice_shown (twice_on two (Start 1 ∷ (steps_of 15 1 ++ (Leave 1 ∷ steps_of 4 1))))) 1 ≡ Ok Leaving
   pub twice_out : told (twice_shown (twice_on two (Start 1 ∷ (steps_of 15 1 ++ (Leave 1 ∷ steps_of 5 1))))) 1 ≡ Ok Out
+  -- the published rules of the cell lock and of the latch lock are those by which their code acts
+  pub cell_begins : (held.ghosts the_cell.the_row cell_taking.ghosts cell_taking.dict).fresh ≡ cell.fresh
+  pub cell_acts : (held.ghosts the_cell.the_row cell_taking.ghosts cell_taking.dict).after ≡ cell.after
+  pub cell_shows : (held.ghosts the_cell.the_row cell_taking.ghosts cell_taking.dict).stations ≡ cell.shown
+  pub latch_acts : (held.ghosts the_latch.the_row latch_taking.ghosts latch_taking.dict).after ≡ latch.after

@@ -5,8 +5,9 @@ ghost use Rattle.std.specs.Prelude.{◌≡◌, ◌+◌, ◌*◌, false, [], map,
 ghost use Rattle.analyser.specs.Service.{Leads, queued, view};
 ghost use Rattle.filling.specs.Lists.{free_places};
 ghost use Rattle.queue.specs.Rule.{over};
-ghost use Rattle.runs.specs.Events.{Performed};
+ghost use Rattle.runs.specs.Events.{Performed, puts_by};
 ghost use Rattle.runs.specs.Runs.{Ran, Served, filled, numbered, readings as readings_in, run_answer};
+ghost use Rattle.service.specs.declared.answer.Sign.TheVariants.{Minus};
 ghost use Rattle.service.specs.History.{answer_of, painted, reading_of, step_reading};
 ghost use Rattle.service.specs.Rule.{lockwork, new_view};
 ghost use Rattle.service.specs.Runs.{after_all, grown, next, painted_all, replies, reply};
@@ -39,6 +40,8 @@ pub fn handle<Q: Ordered, I: Interpolator>(analyser: &mut Analyser<Q, I>, event:
     ensures shown { result.shown ≡ reading_of (reply (lockwork Q.Lock Q.Ordered.own) I.Interpolator.FULL_SCALE (view Q.Lock.state I.Interpolator analyser.old) event) }
     ensures leaves { view Q.Lock.state I.Interpolator analyser.new ≡ next (lockwork Q.Lock Q.Ordered.own) I.Interpolator.FULL_SCALE (view Q.Lock.state I.Interpolator analyser.old) event }
     ensures panel { analyser.new.panel ≡ painted analyser.old.panel (reading_of (reply (lockwork Q.Lock Q.Ordered.own) I.Interpolator.FULL_SCALE (view Q.Lock.state I.Interpolator analyser.old) event)) }
+    ensures interpolator { puts_by (view Q.Lock.state I.Interpolator analyser.old) event ≡ false → analyser.new.interpolator ≡ analyser.old.interpolator }
+    ensures kept { result.answer.sign ≡ Minus → analyser.new ≡ analyser.old }
     ensures law { Performed (lockwork Q.Lock Q.Ordered.own) Q.Lock.state I.Interpolator analyser.old event result.answer analyser.new }
 {
     match event {
