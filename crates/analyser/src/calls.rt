@@ -57,13 +57,15 @@ impl<Q: Ordered, I: Interpolator> Analyser<Q, I> {
     }
 
     // What a step of a board that had this station has come to in the lock.
+    #[inline(always)]
     fn come_to(&self, board: u8, standing: Standing) -> Progress
         ensures { result ≡ come_to (lockwork Q.Lock Q.Ordered.own) (Q.Lock.state self.now.lock) board standing }
     {
-        match (standing, self.lock.station(board), self.lock.waiting(board)) {
-            (Standing::Doorway, _, Ok(true)) => Progress::Passed,
-            (Standing::Waiting, Ok(Station::Inside), _) => Progress::Entered,
-            (Standing::Leaving, Ok(Station::Out), _) => Progress::CameOut,
+        match standing {
+            Standing::Doorway if self.lock.waiting(board) == Ok(true) => Progress::Passed,
+            Standing::Waiting if self.lock.station(board) == Ok(Station::Inside) =>
+                Progress::Entered,
+            Standing::Leaving if self.lock.station(board) == Ok(Station::Out) => Progress::CameOut,
             _ => Progress::Working,
         }
     }

@@ -73,6 +73,7 @@ impl Desk {
     }
 
     // What a board's step has come to is noted.
+    #[inline(always)]
     pub(crate) fn note(&mut self, seat: Seat, progress: Progress)
         ensures { self.new ≡ noted self.old seat.board progress }
     {

@@ -62,45 +62,47 @@ module _ {tries : Option ℕ → ℕ → Option ℕ} {enters : Option ℕ → �
   abbrev pub Good : Boards → Backplane → Type 0
   Good n p = Held p × Owned p
 
-  -- from p to q board b goes to s; every other board has the thing as before, and b has it where it is inside
-  record Goes (p : Backplane) (b : ℕ) (s : Station) (q : Backplane) : Type 0 where
-    shows : shown q ≡ with (shown p) b s
-    others : (j : ℕ) → (j ≢ b) → has q.holder j ≡ has p.holder j
-    inside : s ≡ Inside → has q.holder b ≡ true
-
-  module _ (p q : Backplane) (b : ℕ) (s : Station) (low : 1 ≤ b) (high : b ≤ length (shown p)) (g : Goes p b s q) where
+  -- from p to q board b goes to s
+  module _ (p q : Backplane) (b : ℕ) (s : Station) (low : 1 ≤ b) (high : b ≤ length (shown p)) (shows : shown q ≡ with (shown p) b s) where
     there : Stands (shown q) b s
-    there = subst (λ ss. Stands ss b s) (sym g.shows) (stands_with (shown p) b s low high)
+    there = subst (λ ss. Stands ss b s) (sym shows) (stands_with (shown p) b s low high)
 
-    still_held : Held p → Held q
-    still_held held j h =
-        elim (cases_eq j b) [
-          | inl same ↦ subst (λ i. has q.holder i ≡ true) (sym same) (g.inside (sym there.2 ∙ ap (at (shown q)) (sym same) ∙ h.2))
-          | inr ne ↦ g.others j ne ∙ held j (other_stands (shown p) b j s Inside low ne (subst (λ ss. Stands ss j Inside) g.shows h))
-        ]
+    -- no other board loses the thing
+    module _ (keeps : (j : ℕ) → (j ≢ b) → has p.holder j ≡ true → has q.holder j ≡ true) (held : Held p) where
+      still_held : (s ≡ Inside → has q.holder b ≡ true) → Held q
+      still_held inside j h =
+          elim (cases_eq j b) [
+            | inl same ↦ subst (λ i. has q.holder i ≡ true) (sym same) (inside (sym there.2 ∙ ap (at (shown q)) (sym same) ∙ h.2))
+            | inr ne ↦ keeps j ne (held j (other_stands (shown p) b j s Inside low ne (subst (λ ss. Stands ss j Inside) shows h)))
+          ]
 
-    still_owned : (has q.holder b ≡ true → May s) → Owned p → Owned q
-    still_owned may owned j h =
+      none_else : has q.holder b ≡ true → NoneElse (shown p) b
+      none_else its j ne h = ne (one_has q.holder j b (keeps j ne (held j h)) its)
+
+    -- no other board comes by the thing, and b may have it at s
+    still_owned : ((j : ℕ) → (j ≢ b) → has q.holder j ≡ true → has p.holder j ≡ true) → (has q.holder b ≡ true → May s) → Owned p → Owned q
+    still_owned back may owned j h =
         elim (cases_eq j b) [
           | inl same ↦ subst (λ i. (1 ≤ i) × (i ≤ length (shown q)) × May (at (shown q) i)) (sym same)
               (there.0, there.1, subst May (sym there.2) (may (subst (λ i. has q.holder i ≡ true) same h)))
           | inr ne ↦
-              let w = owned j (sym (g.others j ne) ∙ h) in
-              let k = subst (λ ss. Stands ss j (at (shown p) j)) (sym g.shows) (stands_other (shown p) b j s (at (shown p) j) low ne (w.0, w.1, refl)) in
+              let w = owned j (back j ne h) in
+              let k = subst (λ ss. Stands ss j (at (shown p) j)) (sym shows) (stands_other (shown p) b j s (at (shown p) j) low ne (w.0, w.1, refl)) in
               (k.0, k.1, subst May (sym k.2) w.2)
         ]
 
-    none_else : Held p → s ≡ Inside → NoneElse (shown p) b
-    none_else held e j ne h = ne (one_has q.holder j b (g.others j ne ∙ held j h) (g.inside e))
+  -- from p to q board b goes to s, and every other board has the thing as before
+  record Goes (p : Backplane) (b : ℕ) (s : Station) (q : Backplane) : Type 0 where
+    shows : shown q ≡ with (shown p) b s
+    others : (j : ℕ) → (j ≢ b) → has q.holder j ≡ has p.holder j
 
-  -- board b goes to s or stays there, and the holder is h from now on
-  module _ (p : Backplane) (h : Option ℕ) (b : ℕ) (s : Station)
-      (others : (j : ℕ) → (j ≢ b) → has h j ≡ has p.holder j) (inside : s ≡ Inside → has h b ≡ true) where
+  -- board b goes to s or is there, and the holder is h from now on
+  module _ (p : Backplane) (h : Option ℕ) (b : ℕ) (s : Station) (others : (j : ℕ) → (j ≢ b) → has h j ≡ has p.holder j) where
     moved : 1 ≤ b → b ≤ length (shown p) → Goes p b s (put (with_holder p h) b s)
-    moved low high = record { shows = listed_written p.table b s low high; others = others; inside = inside }
+    moved low high = record { shows = listed_written p.table b s low high; others = others }
 
-    stayed : Stands (shown p) b s → Goes p b s (with_holder p h)
-    stayed k = record { shows = sym (set-get_or (shown p) (b - 1) Out) ∙ ap (with (shown p) b) k.2; others = others; inside = inside }
+    stayed : at (shown p) b ≡ s → Goes p b s (with_holder p h)
+    stayed e = record { shows = sym (set-get_or (shown p) (b - 1) Out) ∙ ap (with (shown p) b) e; others = others }
 
   -- where the board of an accepted call is after it
   abbrev stepped : Option ℕ → ℕ → Station → Station
@@ -117,25 +119,42 @@ module _ {tries : Option ℕ → ℕ → Option ℕ} {enters : Option ℕ → �
 
   tried_goes : (p : Backplane) (b : ℕ) (t : Bool) → enters p.holder b ≡ t → Stands (shown p) b Trying
       → Goes p b (cond t Inside Trying) (cond t (put (with_holder p (tries p.holder b)) b Inside) (with_holder p (tries p.holder b)))
-  tried_goes p b true e k = moved p (tries p.holder b) b Inside (sound.spares p.holder b) (λ _. sound.holds p.holder b e) k.0 k.1
-  tried_goes p b false e k = stayed p (tries p.holder b) b Trying (sound.spares p.holder b) (λ i. absurd (trying≢inside i)) k
+  tried_goes p b true e k = moved p (tries p.holder b) b Inside (sound.spares p.holder b) k.0 k.1
+  tried_goes p b false e k = stayed p (tries p.holder b) b Trying (sound.spares p.holder b) k.2
 
-  step_goes : (p : Backplane) (b : ℕ) (s : Station) → Held p → Stands (shown p) b s → Goes p b (stepped p.holder b s) (step_at tries enters p b s)
-  step_goes p b Out held k = stayed p p.holder b Out (λ _ _. refl) (λ e. absurd (out≢inside e)) k
-  step_goes p b Trying held k = tried_goes p b (enters p.holder b) refl k
-  step_goes p b Inside held k = stayed p p.holder b Inside (λ _ _. refl) (λ _. held b k) k
-  step_goes p b Leaving held k = moved p (freed p.holder b) b Out (freed_other p.holder b) (λ e. absurd (out≢inside e)) k.0 k.1
+  step_goes : (p : Backplane) (b : ℕ) (s : Station) → Stands (shown p) b s → Goes p b (stepped p.holder b s) (step_at tries enters p b s)
+  step_goes p b Out k = stayed p p.holder b Out (λ _ _. refl) k.2
+  step_goes p b Trying k = tried_goes p b (enters p.holder b) refl k
+  step_goes p b Inside k = stayed p p.holder b Inside (λ _ _. refl) k.2
+  step_goes p b Leaving k = moved p (freed p.holder b) b Out (freed_other p.holder b) k.0 k.1
 
   leaves : (p : Backplane) (b : ℕ) → (1 ≤ b) × (b ≤ length (shown p)) → Goes p b Leaving (put p b Leaving)
-  leaves p b k = moved p p.holder b Leaving (λ _ _. refl) (λ e. absurd (inside≢leaving (sym e))) k.0 k.1
+  leaves p b k = moved p p.holder b Leaving (λ _ _. refl) k.0 k.1
 
-  done_goes : (p : Backplane) (c : Call) → Held p → accepted (shown p) c ≡ true → Goes p (board c) (target p c) (done tries enters p c)
-  done_goes p (Start b) held acc =
-      let k = board_there (shown p) (Start b) acc in
-      moved p p.holder b Trying (λ _ _. refl) (λ e. absurd (trying≢inside e)) k.0 k.1
-  done_goes p (Step b bit) held acc = let k = board_there (shown p) (Step b bit) acc in step_goes p b (at (shown p) b) held (k.0, k.1, refl)
-  done_goes p (Leave b) held acc = leaves p b (board_there (shown p) (Leave b) acc)
-  done_goes p (Pull b) held acc = leaves p b (board_there (shown p) (Pull b) acc)
+  done_goes : (p : Backplane) (c : Call) → accepted (shown p) c ≡ true → Goes p (board c) (target p c) (done tries enters p c)
+  done_goes p (Start b) acc = let k = board_there (shown p) (Start b) acc in moved p p.holder b Trying (λ _ _. refl) k.0 k.1
+  done_goes p (Step b bit) acc = let k = board_there (shown p) (Step b bit) acc in step_goes p b (at (shown p) b) (k.0, k.1, refl)
+  done_goes p (Leave b) acc = leaves p b (board_there (shown p) (Leave b) acc)
+  done_goes p (Pull b) acc = leaves p b (board_there (shown p) (Pull b) acc)
+
+  -- a board that is inside after its call has the thing
+  tried_has : (p : Backplane) (b : ℕ) (t : Bool) → enters p.holder b ≡ t → cond t Inside Trying ≡ Inside
+      → has (cond t (put (with_holder p (tries p.holder b)) b Inside) (with_holder p (tries p.holder b))).holder b ≡ true
+  tried_has p b true e i = sound.holds p.holder b e
+  tried_has p b false e i = absurd (trying≢inside i)
+
+  step_has : (p : Backplane) (b : ℕ) (s : Station) → Held p → Stands (shown p) b s → stepped p.holder b s ≡ Inside
+      → has (step_at tries enters p b s).holder b ≡ true
+  step_has p b Out held k i = absurd (out≢inside i)
+  step_has p b Trying held k i = tried_has p b (enters p.holder b) refl i
+  step_has p b Inside held k i = held b k
+  step_has p b Leaving held k i = absurd (out≢inside i)
+
+  done_has : (p : Backplane) (c : Call) → Held p → accepted (shown p) c ≡ true → target p c ≡ Inside → has (done tries enters p c).holder (board c) ≡ true
+  done_has p (Start b) held acc i = absurd (trying≢inside i)
+  done_has p (Step b bit) held acc i = let k = board_there (shown p) (Step b bit) acc in step_has p b (at (shown p) b) held (k.0, k.1, refl) i
+  done_has p (Leave b) held acc i = absurd (inside≢leaving (sym i))
+  done_has p (Pull b) held acc i = absurd (inside≢leaving (sym i))
 
   -- a board that has the thing after its call may have it where it is then
   step_may : (p : Backplane) (b : ℕ) (s : Station) → (has p.holder b ≡ true → May s) → has (step_at tries enters p b s).holder b ≡ true
@@ -160,20 +179,27 @@ module _ {tries : Option ℕ → ℕ → Option ℕ} {enters : Option ℕ → �
   took : (p : Backplane) (c : Call) → accepted (shown p) c ≡ true → after tries enters p c ≡ done tries enters p c
   took p c acc = rw acc
 
+  done_held : (p : Backplane) (c : Call) → Held p → accepted (shown p) c ≡ true → Held (done tries enters p c)
+  done_held p c held acc =
+      let k = board_there (shown p) c acc in
+      let g = done_goes p c acc in
+      still_held p (done tries enters p c) (board c) (target p c) k.0 k.1 g.shows (λ j ne w. g.others j ne ∙ w) held (done_has p c held acc)
+
   pub after_held : (p : Backplane) (c : Call) → Held p → Held (after tries enters p c)
   after_held p c held =
       elim (cases_Bool (accepted (shown p) c)) [
-        | inl t ↦
-            let k = board_there (shown p) c t in
-            subst Held (sym (took p c t)) (still_held p (done tries enters p c) (board c) (target p c) k.0 k.1 (done_goes p c held t) held)
+        | inl t ↦ subst Held (sym (took p c t)) (done_held p c held t)
         | inr f ↦ rw f held
       ]
 
-  after_owned : (p : Backplane) (c : Call) → Held p → Owned p → accepted (shown p) c ≡ true → Owned (after tries enters p c)
-  after_owned p c held owned t =
-      let k = board_there (shown p) c t in
-      subst Owned (sym (took p c t))
-      (still_owned p (done tries enters p c) (board c) (target p c) k.0 k.1 (done_goes p c held t) (done_may p c owned t) owned)
+  done_owned : (p : Backplane) (c : Call) → Owned p → accepted (shown p) c ≡ true → Owned (done tries enters p c)
+  done_owned p c owned acc =
+      let k = board_there (shown p) c acc in
+      let g = done_goes p c acc in
+      still_owned p (done tries enters p c) (board c) (target p c) k.0 k.1 g.shows (λ j ne w. sym (g.others j ne) ∙ w) (done_may p c owned acc) owned
+
+  after_owned : (p : Backplane) (c : Call) → Owned p → accepted (shown p) c ≡ true → Owned (after tries enters p c)
+  after_owned p c owned acc = subst Owned (sym (took p c acc)) (done_owned p c owned acc)
 
   -- where a step may take its board
   steps_to : (p : Backplane) (b : ℕ) (s : Station) → at (shown p) b ≡ s → (stepped p.holder b s ≡ Inside → NoneElse (shown p) b)
@@ -188,14 +214,15 @@ module _ {tries : Option ℕ → ℕ → Option ℕ} {enters : Option ℕ → �
   steps_to p b Leaving e alone = inr (inr (e, refl))
 
   done_moves : (p : Backplane) (c : Call) → Held p → accepted (shown p) c ≡ true → Moves (shown p) c (shown (done tries enters p c))
-  done_moves p (Start b) held acc = (done_goes p (Start b) held acc).shows
+  done_moves p (Start b) held acc = (done_goes p (Start b) acc).shows
   done_moves p (Step b bit) held acc =
       let k = board_there (shown p) (Step b bit) acc in
-      let g = done_goes p (Step b bit) held acc in
-      let alone = none_else p (done tries enters p (Step b bit)) b (target p (Step b bit)) k.0 k.1 g held in
+      let g = done_goes p (Step b bit) acc in
+      let q = done tries enters p (Step b bit) in
+      let alone : target p (Step b bit) ≡ Inside → NoneElse (shown p) b = λ i. none_else p q b (target p (Step b bit)) k.0 k.1 g.shows (λ j ne w. g.others j ne ∙ w) held (done_has p (Step b bit) held acc i) in
       (target p (Step b bit), g.shows, steps_to p b (at (shown p) b) refl alone)
-  done_moves p (Leave b) held acc = (done_goes p (Leave b) held acc).shows
-  done_moves p (Pull b) held acc = (done_goes p (Pull b) held acc).shows
+  done_moves p (Leave b) held acc = (done_goes p (Leave b) acc).shows
+  done_moves p (Pull b) held acc = (done_goes p (Pull b) acc).shows
 
   pub moves_at : (p : Backplane) (c : Call) → Held p → MovesAt fresh (after tries enters) shown p c
   moves_at p c held = (λ f. rw f, λ t. subst (λ q. Moves (shown p) c (shown q)) (sym (took p c t)) (done_moves p c held t))
@@ -224,7 +251,7 @@ module _ {tries : Option ℕ → ℕ → Option ℕ} {enters : Option ℕ → �
   goes_in p b bit owned k others = subst (Nearer p b) (sym (steps_as p b bit Trying k)) (go (enters p.holder b) refl)
     where
       go : (t : Bool) → enters p.holder b ≡ t → Nearer p b (cond t (put (with_holder p (tries p.holder b)) b Inside) (with_holder p (tries p.holder b)))
-      go true e = inl (there p (put (with_holder p (tries p.holder b)) b Inside) b Inside k.0 k.1 (tried_goes p b true e k))
+      go true e = inl (there p (put (with_holder p (tries p.holder b)) b Inside) b Inside k.0 k.1 (tried_goes p b true e k).shows)
       go false e =
           elim (sound.nears p.holder b (free_for p b p.holder refl owned k others)) [
             | inl w ↦ absurd (true≢false (enters p.holder b) w e)
@@ -235,7 +262,7 @@ module _ {tries : Option ℕ → ℕ → Option ℕ} {enters : Option ℕ → �
   goes_out p b bit k =
       subst (λ q. Stands (shown q) b Out) (sym (steps_as p b bit Leaving k))
       (there p (step_at tries enters p b Leaving) b Out k.0 k.1
-      (moved p (freed p.holder b) b Out (freed_other p.holder b) (λ e. absurd (out≢inside e)) k.0 k.1))
+      (moved p (freed p.holder b) b Out (freed_other p.holder b) k.0 k.1).shows)
 
   -- a step of a board that is out does nothing
   no_further : (p : Backplane) (b j : ℕ) (bit : Bool) → Stands (shown p) j Out
@@ -252,7 +279,7 @@ module _ {tries : Option ℕ → ℕ → Option ℕ} {enters : Option ℕ → �
     calls = record {
       new = λ n. take-replicate n.count most Out n.few;
       first = λ n. (fresh_held n, λ b w. absurd (true≢false false w refl));
-      next = λ n p c k acc. (after_held p c k.0, after_owned p c k.0 k.1 acc);
+      next = λ n p c k acc. (after_held p c k.0, after_owned p c k.1 acc);
       moved = λ n p c k. moves_at p c k.0;
     };
     enter_most = λ n p b k h others. (sound.within (after tries enters p (Start b)).holder b).1;

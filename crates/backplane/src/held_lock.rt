@@ -51,6 +51,7 @@ impl<T: Taking> Lock for HeldLock<T> {
         self.plane.station(board)
     }
 
+    #[inline(always)]
     fn perform(&mut self, call: Call) -> Result<(), Refusal> {
         self.plane.perform::<T>(call)
     }

@@ -36,6 +36,7 @@ impl Backplane {
     }
 
     // Judges a call, and then makes it.
+    #[inline(always)]
     pub(crate) fn perform<T: Taking>(&mut self, call: Call) -> Result<(), Refusal>
         ensures answers { result ≡ answer (shown self.old) call }
         ensures leaves { self.new ≡ after T.tries T.enters self.old call }

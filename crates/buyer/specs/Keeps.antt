@@ -2,9 +2,9 @@
 use Rattle.std.specs.Prelude.{◌≡◌, ◌≤◌, Bool, true, false, cond, Some, None, refl}
 use Rattle.std.proofs.Common.{ap, ◌∙◌, inl, inr, arith}
 use Rattle.std.proofs.lemmas.Bool.{eq-eqb}
-use Rattle.backplane.proofs.Taken.{had}
+use Rattle.backplane.proofs.Taken.{had, spares}
 use Rattle.backplane.specs.Rule.{has, taken}
-use Rattle.backplane.specs.Taking.{HoldsInside, Nears, WaitsWith, Within}
+use Rattle.backplane.specs.Taking.{HoldsInside, Nears, Sound, WaitsWith, Within}
 use Rattle.buyer.specs.Latch.{to_enter}
 
 pub holds : HoldsInside taken has
@@ -25,3 +25,7 @@ one_or_two false = (omega arith, omega arith)
 
 pub within : Within to_enter 2
 within h b = one_or_two (has h b)
+
+-- all of these together, from which the laws of a lock follow
+pub sound : Sound taken has true to_enter 2
+sound = record { holds = holds; spares = spares; waits = waits; nears = nears; within = within }

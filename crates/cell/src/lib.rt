@@ -11,6 +11,7 @@ pub use backplane::Backplane;
 use backplane::{HeldLock, Taking};
 
 // A trying board's step takes a free cell and goes inside, or finds it taken and stays trying.
+#[derive(Clone, Copy)]
 pub struct Cell;
 
 pub type CellLock = HeldLock<Cell>;

@@ -1,11 +1,18 @@
 -- From facts of single calls to whole runs, for any kind of state.
-use Rattle.std.proofs.Common.{◌≡◌, ℕ, zero, suc, ◌+◌, ◌≤◌, ◌⊎◌, List, [], ◌∷◌, ◌++◌, sym, refl, ap, subst, inl, inr, arith}
+use Rattle.std.proofs.Common.{◌≡◌, ℕ, zero, suc, ◌+◌, ◌<◌, ◌≤◌, ◌⊎◌, List, [], ◌∷◌, ◌++◌, length, get_or, drop, sym, refl, ap, ◌∙◌, subst, inl, inr, arith}
+use Rattle.std.proofs.lemmas.List.{at_drop_more}
 use Rattle.std.proofs.lemmas.Bool.{cases_eq}
 use Rattle.lock.specs.declared.station.Call.{Call}
+use Rattle.lock.specs.declared.station.Call.TheVariants.{Start}
 use Rattle.lock.specs.Runs.{run, Sometime, Each, own, steps}
 use Rattle.lock.proofs.Stations.{own_most}
 
 module _ {L : Type 0} (after : L → Call → L) where
+  -- the calls from place i on, one of them made
+  pub run_next : (l m end : L) (cs : List Call) (i : ℕ) → i < length cs → m ≡ after l (get_or cs i (Start 0))
+      → run after l (drop i cs) ≡ end → run after m (drop (i + 1) cs) ≡ end
+  run_next l m end cs i lt e h = ap (λ x. run after x (drop (i + 1) cs)) e ∙ sym (at_drop_more (run after l) cs i (Start 0) lt) ∙ h
+
   pub run_append : (l : L) (cs ds : List Call) → run after l (cs ++ ds) ≡ run after (run after l cs) ds
   run_append l [] ds = refl
   run_append l (c ∷ cs) ds = run_append (after l c) cs ds
@@ -66,6 +73,10 @@ module _ {L : Type 0} (after : L → Call → L) where
             let s = r.3 in
             (c ∷ r.0, r.1, ap (λ x. c ∷ x) r.2, (let most = own_most b c in let one : own b c ≡ 1 = omega arith in omega arith), r.4)
       ]
+
+  pub each_append : (P : L → Call → Type 0) (l : L) (cs ds : List Call) → Each after P l (cs ++ ds) → Each after P l cs
+  each_append P l [] ds e = tt
+  each_append P l (c ∷ cs) ds e = (e.0, each_append P (after l c) cs ds e.1)
 
   -- from the moment at which Mid comes, the rest of the list suffices
   pub sometime_then : (b B : ℕ) (Mid Goal : L → Type 0) (Ok : L → Call → Type 0)

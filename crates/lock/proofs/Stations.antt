@@ -1,6 +1,6 @@
 -- Facts on the stations of N boards and one call.
 use Rattle.std.proofs.Common.{◌≡◌, ℕ, zero, suc, ◌-◌, ◌<◌, ◌≤◌, Bool, true, false, cond, eqb, leb, ◌≢◌, ◌⊎◌, List, length, get_or, replicate, is_ok, Ok, Err, Result, sym, refl, ap, ◌∙◌, subst, inl, inr, arith}
-use Rattle.std.proofs.lemmas.Bool.{cases_eq, and_parts, and_from, leb-true, le-leb, eq-eqb, ne_eqb}
+use Rattle.std.proofs.lemmas.Bool.{cases_eq, and_parts, and_from, and_left, and_right, leb-true, le-leb, lt-leb, eq-eqb, ne_eqb}
 use Rattle.std.proofs.lemmas.List.{length-set, get_or-set_same, get_or-set_other}
 use Rattle.lock.specs.declared.station.Call.{Call}
 use Rattle.lock.specs.declared.station.Call.TheVariants.{Start, Step, Leave, Pull}
@@ -8,7 +8,7 @@ use Rattle.lock.specs.declared.station.Refusal.{Refusal}
 use Rattle.lock.specs.declared.station.Refusal.TheVariants.{NoSuchBoard}
 use Rattle.lock.specs.declared.station.Station.{Station}
 use Rattle.lock.specs.declared.station.Station.TheVariants.{Out, Trying, Inside, Leaving}
-use Rattle.lock.specs.Stations.{board, among, at, with, start_at, leave_at, pull_at, accepted, Stands, NoneElse, AtMostOne, Moves}
+use Rattle.lock.specs.Stations.{board, among, at, with, told, start_at, leave_at, pull_at, accepted, Stands, NoneElse, AtMostOne, Moves}
 use Rattle.lock.specs.Runs.{own, OthersOut}
 
 pub out≢trying : Out ≡ Trying → ⊥
@@ -37,6 +37,9 @@ among_from n b p q = and_from (leb 1 b) (leb b n) (le-leb 1 b p) (le-leb b n q)
 
 pub from_among : (n b : ℕ) → among n b ≡ true → (1 ≤ b) × (b ≤ n)
 from_among n b k = let both = and_parts (leb 1 b) (leb b n) k in (leb-true 1 b both.0, leb-true b n both.1)
+
+pub not_among : (n b : ℕ) → (b < 1) ⊎ (n < b) → among n b ≡ false
+not_among n b w = elim w [ inl h ↦ and_left (leb 1 b) (leb b n) (lt-leb 1 b h) | inr h ↦ and_right (leb 1 b) (leb b n) (lt-leb b n h) ]
 
 -- an answer that is Ok passed the first test, and the second
 passed : (k : Bool) (r : Result Unit Refusal) → is_ok (cond k r (Err NoSuchBoard)) ≡ true → (k ≡ true) × (is_ok r ≡ true)
@@ -189,3 +192,11 @@ no_own ss b (Step j bit) p q f =
     ]
 no_own ss b (Leave j) p q f = refl
 no_own ss b (Pull j) p q f = refl
+
+-- what the question for a station tells
+pub told_stands : (ss : List Station) (b : ℕ) (s : Station) → told ss b ≡ Ok s → Stands ss b s
+told_stands ss b s h = go (among (length ss) b) refl h
+  where
+    go : (k : Bool) → among (length ss) b ≡ k → cond k (Ok (at ss b)) (Err NoSuchBoard) ≡ Ok s → Stands ss b s
+    go true e p = let q : at ss b ≡ s = cc in let k = from_among (length ss) b e in (k.0, k.1, q)
+    go false e p = let z : ◌≡◌ {A = ℕ} 0 1 = cc in absurd (omega arith)

@@ -1,7 +1,7 @@
 -- What the records of boards 1 to N have to do with the whole table.
 use Rattle.std.proofs.Common.{◌≡◌, ℕ, ◌-◌, ◌<◌, ◌≤◌, Bool, true, false, cond, map, length, get_or, set, Ok, Err, Result, refl, ap, ◌∙◌, arith}
 use lib.Seq.{take-set-lt}
-use Rattle.std.proofs.lemmas.List.{length-set, length-take, length-take-le, length-map, get_or-map, get_or-set_same, get_or-set_other}
+use Rattle.std.proofs.lemmas.List.{length-set, length-take, length-take-le, length-map, get_or-take, get_or-map, get_or_default, get_or-set_same, get_or-set_other}
 use Rattle.lock.specs.declared.station.Refusal.{Refusal}
 use Rattle.lock.specs.declared.station.Refusal.TheVariants.{NoSuchBoard}
 use Rattle.lock.specs.declared.station.Station.{Station}
@@ -20,12 +20,23 @@ module _ {T : Type 0} where
   pub listed_most : (t : Table T) → length (listed t) ≤ t.boards.count
   listed_most t = let e = length-take t.boards.count t.records in omega arith
 
+  pub listed_at : (t : Table T) (b : ℕ) (d : T) → 1 ≤ b → b ≤ length (listed t) → get_or (listed t) (b - 1) d ≡ get_or t.records (b - 1) d
+  listed_at t b d p q = let most = listed_most t in let h : b - 1 < t.boards.count = omega arith in get_or-take t.boards.count t.records (b - 1) d h
+
   pub listed_written : (t : Table T) (b : ℕ) (x : T) → 1 ≤ b → b ≤ length (listed t) → listed (written t b x) ≡ set (listed t) (b - 1) x
   listed_written t b x p q =
       let k = among_from (length (listed t)) b p q in
       let most = listed_most t in
       let h : b - 1 < t.boards.count = omega arith in
       rw k (take-set-lt t.boards.count t.records (b - 1) x h)
+
+  -- a record that is there is told, whatever stands for one that is not
+  pub asked_there : (t : Table T) (b : ℕ) (x d : T) → kept_for t b ≡ true → asked t b d ≡ Ok (get_or t.records (b - 1) x)
+  asked_there t b x d k =
+      let r = from_among (length (listed t)) b k in
+      let low = r.0 in let high = r.1 in
+      let h : b - 1 < length (listed t) = omega arith in
+      rw k (ap Ok (get_or_default (listed t) (b - 1) d x h ∙ listed_at t b x low high))
 
   pub asked_at : (t : Table T) (b : ℕ) (d : T) → 1 ≤ b → b ≤ length (listed t) → asked t b d ≡ Ok (get_or (listed t) (b - 1) d)
   asked_at t b d p q = let k = among_from (length (listed t)) b p q in rw k

@@ -108,7 +108,7 @@ impl Others {
     }
 }
 
-// The number of a board that is there: it has been judged once, and never lies above the maximum.
+// The number of a board that is there, once it has been judged: it lies from 1 to the maximum.
 #[derive(Clone, Copy)]
 pub struct Seat {
     pub(crate) board: u8,

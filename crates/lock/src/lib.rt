@@ -57,7 +57,8 @@ pub trait Lock: Sized {
         ensures moves { is_ok result ≡ true → Moves (stations (state self.old)) call (stations (state self.new)) }
         ensures kept { is_ok result ≡ false → self.new ≡ self.old };
 
-    // The four calls by their names, each one line over `perform`, so that a holder of a lock need not build a `Call`.
+    // The four calls by their names, each one line over `perform`, so that a holder of a lock need not build a `Call`. The locks
+    // have their `perform` inlined here, so that each of the four comes to its own case alone, and costs no more than that.
 
     // Takes an out board to trying.
     final fn start(&mut self, board: u8) -> Result<(), Refusal>

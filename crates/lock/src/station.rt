@@ -42,6 +42,7 @@ pub enum Call {
 
 impl Call {
     // The board that the call names.
+    #[inline(always)]
     pub fn board(self) -> u8
         ensures { result ≡ named self }
     {
@@ -52,6 +53,7 @@ impl Call {
     }
 
     // Judges the call by the station at which its board stands.
+    #[inline(always)]
     pub fn judge(self, station: Station) -> Result<(), Refusal>
         ensures { result ≡ judged_at self station }
     {

@@ -27,9 +27,9 @@ use Rattle.one_bit.specs.declared.lines.Board.{Board}
 use Rattle.one_bit.specs.declared.lines.Lines.{Lines}
 use Rattle.one_bit.specs.declared.lines.Place.{Place}
 use Rattle.one_bit.specs.declared.lines.Place.TheVariants.{Out, Raising, Reading, Lowering, Awaiting, Inside, Leaving}
-use Rattle.one_bit.specs.Rule.{board, fresh, station, shown, seat, put, seen, onward, read_on, wait_on, lowered, stepped, step_of, after}
+use Rattle.one_bit.specs.Rule.{board, fresh, station, shown, seat, put, seen, onward, read_on, wait_on, lowered, stepped, step_of, after, next}
 use Rattle.one_bit.specs.Sound.{fits, passed, Raised, Fits, Passed, Apart}
-use Rattle.one_bit.specs.Seats.{There, from_shown, shown_length, seat_there, seat_absent, at_seat, stands_seat, seat_stands, still_there, was_there, seat_put, seat_other, shown_put, took, stayed, next, done_puts, call_there, others_stay, same_boards}
+use Rattle.one_bit.specs.Seats.{There, from_shown, shown_length, seat_there, seat_absent, at_seat, stands_seat, seat_stands, still_there, was_there, seat_put, seat_other, shown_put, took, stayed, done_puts, call_there, others_stay, same_boards}
 use Rattle.one_bit.specs.Steps.{never, onward_passed, step_way, step_fits, pull_fits, passed_high, out_place, inside_place, leaving_place, out_low, to_go, some_left, nearer, to_low, lower, low_most}
 
 -- flags fit places, and no two boards have passed each other

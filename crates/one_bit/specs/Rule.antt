@@ -107,6 +107,13 @@ stepped n b level f Leaving = lowered f
 abbrev pub step_of : Lines → ℕ → Bool → Board → Board
 step_of l b bit x = stepped l.table.boards.count b (seen l bit x.place) x.flag x.place
 
+-- what an accepted call makes of its board
+abbrev pub next : Lines → Call → Board
+next l (Start b) = board (seat l b).flag Raising
+next l (Step b bit) = step_of l b bit (seat l b)
+next l (Leave b) = board (seat l b).flag Leaving
+next l (Pull b) = board (begun (seat l b).flag to.Low) Leaving
+
 -- an accepted call: a start and a leave move no flag, and a pull puts a flag in change to low, unless it rests there
 abbrev pub done : Lines → Call → Lines
 done l (Start b) = put l b (board (seat l b).flag Raising)

@@ -20,7 +20,7 @@ use Rattle.one_bit.specs.declared.lines.Board.{Board}
 use Rattle.one_bit.specs.declared.lines.Lines.{Lines}
 use Rattle.one_bit.specs.declared.lines.Place.TheVariants.{Out, Raising, Leaving}
 use Rattle.one_bit.specs.Sound.{OwnFlag}
-use Rattle.one_bit.specs.Rule.{board, station, shown, seat, put, step_of, done, after}
+use Rattle.one_bit.specs.Rule.{board, station, shown, seat, put, next, done, after}
 
 -- board b is one of those in the table
 abbrev pub There : Lines → ℕ → Type 0
@@ -97,13 +97,6 @@ took l c acc = rw acc
 
 pub stayed : (l : Lines) (c : Call) → accepted (shown l) c ≡ false → after l c ≡ l
 stayed l c bad = rw bad
-
--- every accepted call writes its own board, and no other
-abbrev pub next : Lines → Call → Board
-next l (Start b) = board (seat l b).flag Raising
-next l (Step b bit) = step_of l b bit (seat l b)
-next l (Leave b) = board (seat l b).flag Leaving
-next l (Pull b) = board (begun (seat l b).flag to.Low) Leaving
 
 pub done_puts : (l : Lines) (c : Call) → done l c ≡ put l (stations.board c) (next l c)
 done_puts l (Start b) = refl

@@ -66,6 +66,7 @@ impl Lock for OneBit {
         self.lines.station(board)
     }
 
+    #[inline(always)]
     fn perform(&mut self, call: Call) -> Result<(), Refusal> {
         self.lines.perform(call)
     }

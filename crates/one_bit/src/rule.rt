@@ -5,9 +5,8 @@ ghost use Rattle.line.specs.declared.Level.TheVariants as to;
 ghost use Rattle.line.specs.declared.Line.TheVariants.{Low};
 ghost use Rattle.lock.specs.Stations.{answer, told};
 ghost use Rattle.one_bit.specs.declared.lines.Place.TheVariants.{Leaving, Out};
-ghost use Rattle.one_bit.specs.Rule.{after, changed, flag_told, fresh, lowered, onward, put, read_on, seen, shown, station, stepped, wait_on};
+ghost use Rattle.one_bit.specs.Rule.{after, changed, flag_told, fresh, lowered, next, onward, put, read_on, seen, shown, station, stepped, wait_on};
 ghost use Rattle.one_bit.specs.Rule.{board as made, seat as seat_at};
-ghost use Rattle.one_bit.specs.Seats.{next};
 
 use crate::lines::{Board, Lines, Place};
 use line::{Level, Line};
@@ -188,6 +187,7 @@ impl Lines {
 
     // What an accepted call makes of its board. A start and a leave move no flag; a pull puts one that is not at rest low
     // in change to low, and the next step makes it low.
+    #[inline(always)]
     fn next(&self, call: Call) -> Board
         ensures { result ≡ next self.now call }
     {
@@ -204,6 +204,7 @@ impl Lines {
         }
     }
 
+    #[inline(always)]
     pub(crate) fn perform(&mut self, call: Call) -> Result<(), Refusal>
         ensures answers { result ≡ answer (shown self.old) call }
         ensures leaves { self.new ≡ after self.old call }

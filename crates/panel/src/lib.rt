@@ -31,8 +31,9 @@ impl Panel {
         ensures other { (before : Reading) → self.old.last ≡ Some before → alike before reading ≡ false → self.new.repaints ≡ risen self.old.repaints }
         ensures stays { self.old.repaints ≡ 4294967295 → self.new.repaints ≡ 4294967295 }
     {
-        if self.last != Some(reading) {
-            self.repaint();
+        match self.last {
+            Some(before) if before.same(reading) => {}
+            _ => self.repaint(),
         }
         self.last = Some(reading);
     }

@@ -65,6 +65,7 @@ impl<L: Lock> Queue<L> {
 
     // What a step of a board reads; low where it reads nothing, which then makes no difference: an Option would make each rule
     // say so once more.
+    #[inline(always)]
     fn read(&self, board: u8, bit: bool, own: Door) -> Level
         ensures { result ≡ seen self.now board bit own.notes own.phase }
     {
@@ -119,6 +120,7 @@ impl<L: Lock> Queue<L> {
     }
 
     // What an accepted call makes of its board and of its row, and the call that it makes in the lock below.
+    #[inline(always)]
     fn next(&self, call: Call) -> Next
         ensures door { result.door ≡ next_door L.Lock.stations (over L.Lock.state self.now) call }
         ensures row { result.row ≡ next_row L.Lock.stations (over L.Lock.state self.now) call }
@@ -157,6 +159,7 @@ impl<L: Lock> Queue<L> {
     }
 
     // Writes the board and its row, and makes its call, if any, in the lock below.
+    #[inline(always)]
     fn act(&mut self, board: u8, next: Next)
         ensures leaves { over L.Lock.state self.new ≡ acted L.Lock.after L.Lock.stations (over L.Lock.state self.old) board next.door next.row next.call }
         ensures moved { MovedBelow L.Lock.after L.Lock.stations L.Lock.fresh (L.Lock.state self.old.below) next.call }
@@ -210,6 +213,7 @@ impl<L: Lock> Lock for Queue<L> {
         self.stands(board)
     }
 
+    #[inline(always)]
     fn perform(&mut self, call: Call) -> Result<(), Refusal> {
         let board = call.board();
         call.judge(self.stands(board)?)?;

@@ -169,6 +169,7 @@ impl Door {
     }
 
     // The lowest board that is noted.
+    #[inline(always)]
     pub(crate) fn lowest(self) -> Option<u8>
         ensures { result ≡ lowest self.notes }
     {

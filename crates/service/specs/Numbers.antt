@@ -1,7 +1,6 @@
 -- The numbers by which answers and refusals are told.
 use Rattle.std.specs.Prelude.{ℕ, ℤ, pos}
 use Rattle.interpolator.specs.declared.refusal.Refusal.{Refusal as Judged}
-use Rattle.interpolator.specs.declared.refusal.Refusal.TheVariants.{AboveFullScale as AboveScale}
 use Rattle.service.specs.declared.progress.Progress.{Progress}
 use Rattle.service.specs.declared.progress.Progress.TheVariants.{Idle, Working, Passed, Entered, Shown, CameOut}
 use Rattle.service.specs.declared.refusal.Refusal.{Refusal}
@@ -30,6 +29,6 @@ refused_by NotOut = 2
 refused_by AboveFullScale = 3
 refused_by NotEngaged = 4
 
--- the refusal that comes of an interpolator's
+-- the refusal that comes of an interpolator's, whichever that is
 abbrev pub passed_on : Judged → Refusal
-passed_on AboveScale = AboveFullScale
+passed_on _ = AboveFullScale

@@ -28,13 +28,12 @@ impl From<Refusal> for u8 {
     }
 }
 
-// What an interpolator refuses, an analyser refuses for the same reason.
+// What an interpolator refuses of a count, an analyser refuses by a refusal of its own, so that none of an interpolator's
+// reaches further.
 impl From<interpolator::Refusal> for Refusal {
     ghost from_gives = { λ refusal result. result ≡ passed_on refusal };
 
-    fn from(refusal: interpolator::Refusal) -> Refusal {
-        match refusal {
-            interpolator::Refusal::AboveFullScale => Refusal::AboveFullScale,
-        }
+    fn from(_: interpolator::Refusal) -> Refusal {
+        Refusal::AboveFullScale
     }
 }
